@@ -1,11 +1,11 @@
 -- The lines of a text that are left after one of them.
-use Rattle.std.proofs.Common.{◌≡◌, ◌≢◌, ◌<◌, ◌≤◌, ℕ, ◌+◌, List, [], ◌∷◌, ◌++◌, length, cond}
-use Rattle.std.proofs.Common.{if◌then◌else◌, Bool, true, false, eqb, Option, Some, None, refl, ap}
-use Rattle.std.proofs.Common.{sym, ◌∙◌, ne_eqb, arith, length-append, subst}
+use Rattle.std.proofs.Common.{◌≡◌, ◌≢◌, ◌≤◌, ℕ, ◌+◌, List, [], ◌∷◌, ◌++◌, length, cond}
+use Rattle.std.proofs.Common.{if◌then◌else◌, Bool, true, false, eqb, Option, Some, refl, ap}
+use Rattle.std.proofs.Common.{◌∙◌, ne_eqb, arith, length-append}
 use Rattle.std.specs.List.{onto_first, All}
 use Rattle.std.proofs.lemmas.List.Splits.{slice_split_at, slice_split_none}
 use Rattle.std.proofs.lemmas.List.Elements.{All-weaker}
-use Rattle.ec_explain.specs.RelatedLine.{last_in, last_before, lines_of}
+use Rattle.ec_explain.specs.RelatedLine.{last_in, lines_of}
 use Rattle.ec_text.proofs.shared.WordLemmas.{onto_has}
 
 -- a list of lines has a first

@@ -1,12 +1,12 @@
 -- What is wrong with a line: each cause is a test of the line and of what came before it, and the
 -- first that holds is reported.
 use Rattle.std.specs.Prelude.{ℕ, ◌+◌, ◌-◌, ◌==◌, ◌||◌, ◌&&◌, not, Bool, true, false, nat_lt, List}
-use Rattle.std.specs.Prelude.{[], ◌∷◌, length, take, drop, Option, Some, None, is_some, is_none}
+use Rattle.std.specs.Prelude.{[], ◌∷◌, length, take, Option, Some, None, is_some, is_none}
 use Rattle.std.specs.Prelude.{unwrap_or, bytes_eq, codes, if◌then◌else◌}
-use Rattle.std.specs.List.{list_any, list_all}
+use Rattle.std.specs.List.{list_all}
 use Rattle.std.specs.Char.{is_ascii_alphabetic}
 use Rattle.ec_count.specs.Tables.{first_that}
-use Rattle.ec_count.specs.Reserved.{is_name_byte}
+use Rattle.ec_count.specs.Reserved.{is_name, is_name_byte}
 use Rattle.ec_text.specs.Words.{words_of, number_in_word, is_number_form}
 use Rattle.ec_heading.specs.declared.heading.HeadFault.{HeadFault}
 use Rattle.ec_heading.specs.declared.heading.HeadFault.TheVariants as heads
@@ -20,8 +20,8 @@ use Rattle.ec_explain.specs.declared.cause.Cause.TheVariants as causes
 use Rattle.ec_explain.specs.declared.site.Site.{Site}
 use Rattle.ec_explain.specs.declared.site.Site.TheVariants as sites
 use Rattle.ec_explain.specs.TextLines.{position_or_end}
-use Rattle.ec_explain.specs.Places.{word_at, behind_first, word_start, is_among, names_before}
-use Rattle.ec_explain.specs.Places.{listed_before, full_before}
+use Rattle.ec_explain.specs.Places.{word_at, behind_first, word_start, is_among, is_full}
+use Rattle.ec_explain.specs.Places.{is_listed, words_before}
 use Rattle.calls_text.specs.Causes.{last_byte, has_space as has_blank, has_tab}
 
 -- ANY LINE
@@ -51,13 +51,11 @@ line_cause line = first_that (
 
 -- THE FIRST LINE
 
--- whether it begins as the first line of some version does
-abbrev pub is_header : List ℕ → Bool
-is_header line = begins_with (codes "evc-trace") line || begins_with (codes "evc-script") line
-    || begins_with (codes "evc-calls") line
-
+-- it begins as the first line of some version does, or not
 abbrev pub first_cause : List ℕ → Cause
-first_cause line = if is_header line then causes.OtherVersion else causes.NoHeader
+first_cause line =
+    if begins_with (codes "evc-trace") line || begins_with (codes "evc-script") line
+    || begins_with (codes "evc-calls") line then causes.OtherVersion else causes.NoHeader
 
 -- THE LIMIT
 
@@ -79,10 +77,9 @@ has_name_form (b ∷ bs) = is_ascii_alphabetic b && list_all is_name_byte bs
 -- what is wrong with a word that is no name: it is too long; or it has the form, and so is
 -- reserved; or it lacks the form
 abbrev pub name_cause : List ℕ → Cause
-name_cause w = unwrap_or (first_that (
-    (nat_lt 16 (length w), causes.LongName)
-    ∷ (has_name_form w, causes.ReservedName)
-    ∷ [])) causes.BadName
+name_cause w =
+    if nat_lt 16 (length w) then causes.LongName
+    else (if has_name_form w then causes.ReservedName else causes.BadName)
 
 -- what is wrong with a line of a header, by its lowest fault and its new name
 abbrev pub head_cause : HeadFault → List ℕ → Cause
@@ -97,7 +94,7 @@ head_cause heads.Memory w = causes.Other
 
 -- the index of the first word that is no name, after the word `workers`
 abbrev pub bad_name_place : List ℕ → ℕ
-bad_name_place line = 1 + names_before (behind_first (words_of line))
+bad_name_place line = 1 + words_before is_name (behind_first (words_of line))
 
 -- the index of the new name in a line of a header that has one, or of the first word that should
 -- be one
@@ -105,10 +102,9 @@ abbrev pub new_name_place : List ℕ → ℕ
 new_name_place line = if bytes_eq (word_at 0 line) (codes "workers") then bad_name_place line else 1
 
 abbrev pub workers_cause : HeadFault → List ℕ → Cause
-workers_cause fault line = unwrap_or (first_that (
-    (not (bytes_eq (word_at 0 line) (codes "workers")), causes.NoWorkers)
-    ∷ (length (words_of line) == 1, causes.NoWorkers)
-    ∷ [])) (head_cause fault (word_at (bad_name_place line) line))
+workers_cause fault line =
+    if not (bytes_eq (word_at 0 line) (codes "workers")) || length (words_of line) == 1
+    then causes.NoWorkers else head_cause fault (word_at (bad_name_place line) line)
 
 -- DECLARATIONS
 
@@ -132,9 +128,6 @@ act_words verb =
 abbrev pub equals_place : List ℕ → ℕ
 equals_place line = 1 + unwrap_or (act_words (word_at 1 line)) 1
 
-abbrev pub is_hand : List ℕ → Bool
-is_hand verb = bytes_eq verb (codes "hand")
-
 -- whether a word is an object that the act may name: none, a sequencer, a cell or an eventcount
 abbrev pub has_object : NameTable → List ℕ → List ℕ → Bool
 has_object names verb w =
@@ -142,10 +135,6 @@ has_object names verb w =
     else (if bytes_eq verb (codes "ticket") then is_some (sequencer_in names w)
     else (if is_among (codes "put" ∷ codes "get" ∷ []) verb then is_some (cell_in_word names w)
     else is_some (event_in names w)))
-
--- whether an act has a value, and the word is none
-abbrev pub lacks_value : List ℕ → List ℕ → Bool
-lacks_value verb w = is_among (codes "await" ∷ codes "put" ∷ []) verb && is_none (number_in_word w)
 
 abbrev pub is_reply : List ℕ → Bool
 is_reply w = is_among (codes "done" ∷ codes "pending" ∷ []) w || is_some (number_in_word w)
@@ -155,15 +144,21 @@ abbrev pub act_cause : HeadingModel → List ℕ → Option Cause
 act_cause h line = first_that (
     (is_none (worker_in h.words (word_at 0 line)), causes.NoWorker)
     ∷ (is_none (act_words (word_at 1 line)), causes.NoAct)
-    ∷ (is_hand (word_at 1 line) && not (has_transfer h.version), causes.HandInOne)
+    ∷ (bytes_eq (word_at 1 line) (codes "hand") && not (has_transfer h.version), causes.HandInOne)
     ∷ (not (has_object h.words (word_at 1 line) (word_at 2 line)), causes.NoObject)
     ∷ [])
 
 -- what is wrong with what follows the object
 abbrev pub reply_cause : HeadingModel → List ℕ → Cause
-reply_cause h line = unwrap_or (first_that (
-    (lacks_value (word_at 1 line) (word_at 3 line), causes.NoValue)
-    ∷ (is_hand (word_at 1 line) && is_none (worker_in h.words (word_at 3 line)), causes.NoReceiver)
+reply_cause h line = unwrap_or (first_that ((
+  is_among (codes "await" ∷ codes "put" ∷ []) (word_at 1 line)
+      && is_none (number_in_word (word_at 3 line)),
+  causes.NoValue,
+)
+    ∷ (
+      bytes_eq (word_at 1 line) (codes "hand") && is_none (worker_in h.words (word_at 3 line)),
+      causes.NoReceiver,
+    )
     ∷ (not (bytes_eq (word_at (equals_place line) line) (codes "=")), causes.NoEquals)
     ∷ (not (is_reply (word_at (equals_place line + 1) line)), causes.NoReply)
     ∷ [])) causes.EntryWords
@@ -181,9 +176,6 @@ site_cause (sites.Workers fault) line = workers_cause fault line
 site_cause (sites.Declaration h fault) line = declaration_cause h.now fault line
 site_cause (sites.Entry h) line = entry_cause h.now line
 site_cause sites.Behind line = causes.AfterEnd
-site_cause (sites.Heading fault) line = head_cause fault (word_at (new_name_place line) line)
-site_cause sites.Script line = causes.ScriptForm
-site_cause sites.Calls line = causes.CallsForm
 site_cause sites.Unknown line = causes.Other
 
 -- what is wrong with a line at its site
@@ -194,12 +186,12 @@ cause_at site line = unwrap_or (line_cause line) (site_cause site line)
 
 abbrev pub name_place : Site → List ℕ → ℕ
 name_place (sites.Workers fault) line = bad_name_place line
-name_place (sites.Heading fault) line = new_name_place line
 name_place _ line = 1
 
 -- the index of the first word after a declaration's name that may not follow it
 abbrev pub first_unlisted : NameTable → List ℕ → ℕ
-first_unlisted names line = 2 + listed_before names (behind_first (behind_first (words_of line)))
+first_unlisted names line =
+    2 + words_before (is_listed names) (behind_first (behind_first (words_of line)))
 
 abbrev pub unknown_place : Site → List ℕ → ℕ
 unknown_place (sites.Declaration h fault) line = first_unlisted h.now.words line
@@ -207,7 +199,7 @@ unknown_place _ line = 2
 
 -- the index of the word that shows the cause
 abbrev pub word_place : Site → Cause → List ℕ → ℕ
-word_place site causes.TwoSpaces line = full_before (words_of line)
+word_place site causes.TwoSpaces line = words_before is_full (words_of line)
 word_place site causes.LimitWords line = 2
 word_place site causes.LimitNoNumber line = 1
 word_place site causes.LimitZero line = 1

@@ -2,6 +2,7 @@
 use Rattle.std.specs.Prelude.{ℕ, ◌+◌, ◌-◌, ◌&&◌, nat_le, nat_lt, List, [], ◌∷◌, ◌++◌, take, drop}
 use Rattle.std.specs.Prelude.{length, min, Option, Some, None, replicate, bytes_eq, ◌==◌, codes}
 use Rattle.std.specs.Prelude.{decimal, if◌then◌else◌}
+use Rattle.std.specs.Option.{option_map_or}
 use Rattle.std.specs.List.{flat_map}
 use Rattle.ec_explain.specs.declared.cause.Cause.{Cause}
 use Rattle.ec_explain.specs.declared.cause.Cause.TheVariants as causes
@@ -14,40 +15,32 @@ use Rattle.ec_explain.specs.Causes.{cause_at, place_at, equals_place, line_cause
 use Rattle.calls_text.specs.Causes.{last_byte}
 use Rattle.ec_explain.specs.RelatedLine.{call_line, declaration_line, right_line}
 use Rattle.ec_explain.specs.Places.{word_start, word_at}
-use Rattle.ec_heading.specs.Spelling.{reply_word}
+use Rattle.ec_heading.specs.Spelling.{ended_line, reply_word}
 use Rattle.ec_core.specs.declared.act.Reply.{Reply}
 use Rattle.ec_explain.specs.TextLines.{line_at, lines_in}
 use Rattle.ec_core.specs.declared.act.Refusal.{Refusal}
 use Rattle.ec_core.specs.declared.act.Refusal.TheVariants as refusals
 
+-- this cause, which no line shows
+abbrev pub finding_of_text : Cause → Finding
+finding_of_text cause = record { cause = cause; spot = None; right = None; see = None }
+
 -- this cause, at this place of the line with this number
 abbrev pub finding_at : Cause → ℕ → ℕ → Finding
 finding_at cause n place =
-    record {
-      cause = cause;
-      spot = Some (record { number = n; place = place });
-      right = None;
-      see =
-          None;
-    }
+    record (finding_of_text cause) { spot = Some (record { number = n; place = place }) }
 
 -- what is wrong with a rejected line of this number, at this site
 abbrev pub finding_of_line : Site → ℕ → List ℕ → Finding
 finding_of_line site n line =
     finding_at (cause_at site line) n (place_at site (cause_at site line) line)
 
--- the cause that the bytes of a line show by themselves; or, if they show none, this one, at this
--- place
-abbrev pub lined_by : Option Cause → Cause → ℕ → ℕ → List ℕ → Finding
-lined_by None cause n place line = finding_at cause n place
-lined_by (Some c) cause n place line = finding_at c n (place_at sites.Unknown c line)
-
+-- the cause that the bytes of a line show by themselves; or, if they show none, this one, at the
+-- word with this index
 abbrev pub finding_by_bytes : Cause → ℕ → ℕ → List ℕ → Finding
-finding_by_bytes cause n place line = lined_by (line_cause line) cause n place line
-
--- this cause, which no line shows
-abbrev pub finding_of_text : Cause → Finding
-finding_of_text cause = record { cause = cause; spot = None; right = None; see = None }
+finding_by_bytes cause n word line =
+    option_map_or (λ c. finding_at c n (place_at sites.Unknown c line)) (line_cause line)
+    (finding_at cause n (word_start word line))
 
 -- why an act is refused; in a trace what an entry names is declared, and each value small enough
 abbrev pub refusal_cause : Refusal → Cause
@@ -57,9 +50,7 @@ refusal_cause refusals.NoRight = causes.NoRight
 refusal_cause refusals.AtLimit = causes.AtLimit
 refusal_cause refusals.NotHandable = causes.NotHandable
 refusal_cause refusals.AlreadySignals = causes.AlreadySignals
-refusal_cause refusals.UnknownWorker = causes.Other
-refusal_cause refusals.UnknownObject = causes.Other
-refusal_cause refusals.ValueTooLarge = causes.Other
+refusal_cause _ = causes.Other
 
 -- the line that shows why the act of line n is refused: the one by which the pending call began;
 -- the one by which the right was lost, or that declares the object, and who may use it; and the
@@ -134,45 +125,28 @@ line_text s line =
     ++ flat_map plain_byte (shown_bytes s.place line) ++ codes "\n    "
 
 -- the line, and a mark under the place
-unfoldable pub spot_text : LinePosition → List ℕ → List ℕ
-spot_text s line = line_text s line ++ spaces (s.place - shown_from s.place) ++ codes "^\n"
-
 abbrev pub spot_or_none : Option LinePosition → List ℕ → List ℕ
 spot_or_none None text = []
-spot_or_none (Some s) text = spot_text s (line_at s.number text)
-
--- what is wrong
-unfoldable pub sentence_text : Cause → List ℕ
-sentence_text cause = sentence cause ++ codes "\n"
+spot_or_none (Some s) text =
+    line_text s (line_at s.number text) ++ spaces (s.place - shown_from s.place) ++ codes "^\n"
 
 -- the right reply, if only the reply is wrong
 abbrev pub right_text : Option Reply → List ℕ
 right_text None = []
 right_text (Some right) = codes "The right reply is " ++ reply_word right ++ codes ".\n"
 
-unfoldable pub see_front : ℕ → List ℕ
-see_front n = codes "See line " ++ decimal n ++ codes ": "
-
 -- another line that shows why: its number, and what is shown of it for a place
 unfoldable pub line_seen : ℕ → ℕ → List ℕ → List ℕ
-line_seen n place line = see_front n ++ flat_map plain_byte (shown_bytes place line) ++ codes "\n"
+line_seen n place line =
+    codes "See line " ++ decimal n ++ codes ": " ++ flat_map plain_byte (shown_bytes place line)
+    ++ codes "\n"
 
 abbrev pub see_text : Option ℕ → List ℕ → List ℕ
 see_text None text = []
 see_text (Some n) text = line_seen n 0 (line_at n text)
 
--- how to mend it
-unfoldable pub remedy_text : Cause → List ℕ
-remedy_text cause = remedy cause ++ codes "\n"
-
--- what is wrong, and why
-unfoldable pub why_text : Finding → List ℕ → List ℕ
-why_text f text = sentence_text f.cause ++ right_text f.right ++ see_text f.see text
-
--- the line if there is one, what is wrong, and why
-unfoldable pub found_text : Finding → List ℕ → List ℕ
-found_text f text = spot_or_none f.spot text ++ why_text f text
-
 -- the line if there is one, what is wrong, why, what more is known of it, and how to mend it
 unfoldable pub finding_text : Finding → List ℕ → List ℕ → List ℕ
-finding_text f more text = found_text f text ++ more ++ remedy_text f.cause
+finding_text f more text =
+    spot_or_none f.spot text ++ ended_line (sentence f.cause) ++ right_text f.right
+    ++ see_text f.see text ++ more ++ ended_line (remedy f.cause)

@@ -1,11 +1,13 @@
 -- The words of a line, by their indices, and where they begin.
-use Rattle.std.specs.Prelude.{ℕ, ◌+◌, ◌-◌, ◌==◌, ◌||◌, Bool, List, [], ◌∷◌, length, min, unwrap_or}
+use Rattle.std.specs.Prelude.{ℕ, ◌+◌, ◌-◌, ◌==◌, ◌||◌, not, Bool, List, [], ◌∷◌, length, min, unwrap_or}
 use Rattle.std.specs.Prelude.{slice_get, is_some, codes, bytes_eq, if◌then◌else◌}
 use Rattle.std.specs.List.{list_any}
 use Rattle.ec_count.specs.Reserved.{is_name}
 use Rattle.ec_text.specs.Words.{words_of, number_in_word}
 use Rattle.ec_heading.specs.Lists.{worker_in}
 use Rattle.ec_heading.specs.EntryWords.{NameTable}
+use Rattle.ec_explain.specs.declared.words.WordTest.{WordTest}
+use Rattle.ec_explain.specs.declared.words.WordTest.TheVariants as tests
 
 -- the word at an index, counted from 0; [] if there is none
 abbrev pub word_at : ℕ → List ℕ → List ℕ
@@ -40,15 +42,16 @@ abbrev pub is_listed : NameTable → List ℕ → Bool
 is_listed names w = (is_some (worker_in names w) || is_some (number_in_word w))
     || is_among list_openers w
 
--- how many words come before the first that is no name, that may not be listed, and that is empty
-abbrev pub names_before : List (List ℕ) → ℕ
-names_before [] = 0
-names_before (w ∷ ws) = if is_name w then 1 + names_before ws else 0
+-- whether a word has a byte
+abbrev pub is_full : List ℕ → Bool
+is_full w = not (length w == 0)
 
-abbrev pub listed_before : NameTable → List (List ℕ) → ℕ
-listed_before names [] = 0
-listed_before names (w ∷ ws) = if is_listed names w then 1 + listed_before names ws else 0
+abbrev pub word_test : WordTest → List ℕ → Bool
+word_test tests.Name = is_name
+word_test (tests.Listed h) = is_listed h.now.words
+word_test tests.Full = is_full
 
-abbrev pub full_before : List (List ℕ) → ℕ
-full_before [] = 0
-full_before (w ∷ ws) = if length w == 0 then 0 else 1 + full_before ws
+-- how many words come before the first that fails a test
+abbrev pub words_before : (List ℕ → Bool) → List (List ℕ) → ℕ
+words_before p [] = 0
+words_before p (w ∷ ws) = if p w then 1 + words_before p ws else 0

@@ -2,6 +2,7 @@
 -- is declared.
 use Rattle.std.specs.Prelude.{ℕ, ◌+◌, ◌==◌, ◌&&◌, ◌||◌, not, Bool, List, [], ◌∷◌, take, min, Option}
 use Rattle.std.specs.Prelude.{Some, None, bytes_eq, codes, if◌then◌else◌}
+use Rattle.std.specs.Option.{option_or}
 use Rattle.std.specs.List.{slice_split}
 use Rattle.ec_explain.specs.declared.related_line.Target.{Target}
 use Rattle.ec_explain.specs.declared.related_line.Target.TheVariants.{Call, Declaration, Hand}
@@ -63,11 +64,7 @@ hand_line n text =
     last_in (hands_by (word_at 0 (line_at n text)) (word_at 2 (line_at n text))) 0 None
     (lines_of (text_before_line n text))
 
-abbrev pub or_else : Option ℕ → Option ℕ → Option ℕ
-or_else None other = other
-or_else (Some n) other = Some n
-
 -- the line by which the worker of line n lost its right to the object of line n; or that which
 -- declares the object, and says who has it
 abbrev pub right_line : ℕ → List ℕ → Option ℕ
-right_line n text = or_else (hand_line n text) (declaration_line n text)
+right_line n text = option_or (hand_line n text) (declaration_line n text)

@@ -29,14 +29,11 @@ parse_act names verb w =
     else (if bytes_eq verb (codes "get") then option_map acts.Get (cell_in_word names w)
     else None)))))
 
-abbrev pub asked_by : Option Act → ℕ → Option Asked
-asked_by act w = option_map (λ a. record { worker = w; act = a }) act
-
 -- the worker of a line, and the right that its act needs
 unfoldable pub asked_in : HeadingModel → List ℕ → Option Asked
 asked_in h line =
-    option_and_then (asked_by (parse_act h.words (word_at 1 line) (word_at 2 line)))
-    (worker_in h.words (word_at 0 line))
+    option_and_then (λ w. option_map (λ a. record { worker = w; act = a })
+    (parse_act h.words (word_at 1 line) (word_at 2 line))) (worker_in h.words (word_at 0 line))
 
 -- WHO HAS IT
 

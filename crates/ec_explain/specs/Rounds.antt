@@ -1,14 +1,13 @@
 -- What a read or an await has read in its round: of each component its number, its signaller, and
 -- the total of the eventcount, when the component was read.
-use Rattle.std.specs.Prelude.{ℕ, zero, suc, nat_lt, Bool, false, List, [], ◌∷◌, ◌++◌, length}
-use Rattle.std.specs.Prelude.{Option, Some, None, option_map, option_to_list, unwrap_or}
-use Rattle.std.specs.Prelude.{if◌then◌else◌}
+use Rattle.std.specs.Prelude.{◌≡◌, ℕ, zero, suc, nat_lt, List, [], ◌∷◌, ◌++◌, length, take}
+use Rattle.std.specs.Prelude.{Option, Some, None, option_map, unwrap_or, if◌then◌else◌}
 use Rattle.std.specs.Option.{option_map_or}
 use Rattle.ec_count.specs.Tables.{Tables}
 use Rattle.ec_core.specs.declared.act.Act.{Act}
 use Rattle.ec_core.specs.declared.act.Act.TheVariants.{Go}
 use Rattle.ec_core.specs.declared.act.Entry.{Entry}
-use Rattle.ec_core.specs.Calls.{CallSoFar, is_go, under_way}
+use Rattle.ec_core.specs.Calls.{CallSoFar, under_way}
 use Rattle.ec_core.specs.Counts.{component_total, signaller_at, total}
 use Rattle.ec_core.specs.Rounds.{event_or, next_component, component_count}
 use Rattle.ec_explain.specs.declared.round.Look.{Look}
@@ -18,12 +17,10 @@ abbrev pub held_in : Tables → ℕ → ℕ → List Entry → Option ℕ
 held_in t e c past =
     if nat_lt c (component_count t e) then Some (component_total t e c past) else None
 
--- the total of e, if it is declared
-abbrev pub total_in : Tables → ℕ → List Entry → Option ℕ
-total_in t e past = if nat_lt e (length t.events) then Some (total e past) else None
-
+-- the total of e, 0 if it is not declared
 abbrev pub total_of : Tables → ℕ → List Entry → ℕ
-total_of t e past = unwrap_or (total_in t e past) 0
+total_of t e past =
+    unwrap_or (if nat_lt e (length t.events) then Some (total e past) else None) 0
 
 -- what an entry that reads component c of e finds after a reversed history
 abbrev pub look_at : Tables → ℕ → ℕ → List Entry → Look
@@ -42,10 +39,12 @@ looks_in t e zero moments = []
 looks_in t e (suc i) [] = []
 looks_in t e (suc i) (past ∷ moments) = looks_in t e i moments ++ look_at t e i past ∷ []
 
--- what the round of a call has found so far
+-- how many components the round of a call has read so far, and what it has found
+abbrev pub components_read : Tables → CallSoFar → ℕ
+components_read t call = next_component t (event_or call.op) call.moments
+
 abbrev pub looks_of : Tables → CallSoFar → List Look
-looks_of t call =
-    looks_in t (event_or call.op) (next_component t (event_or call.op) call.moments) call.moments
+looks_of t call = looks_in t (event_or call.op) (components_read t call) call.moments
 
 -- what the round that w is in after a reversed history has found
 abbrev pub looks_so_far : Tables → ℕ → List Entry → List Look
@@ -67,25 +66,18 @@ looks_with t w past act = looks_through t act past []
 
 -- what an act of w finds after a reversed history
 abbrev pub look_of : Tables → List Entry → CallSoFar → Look
-look_of t past call =
-    look_at t (event_or call.op) (next_component t (event_or call.op) call.moments) past
+look_of t past call = look_at t (event_or call.op) (components_read t call) past
 
 abbrev pub next_look : Tables → ℕ → List Entry → Act → Option Look
 next_look t w past Go = option_map (look_of t past) (under_way w past)
 next_look t w past act = Some (look_at t (event_or act) 0 past)
 
--- whether w is within a round after a reversed history
-abbrev pub has_begun : Tables → CallSoFar → Bool
-has_begun t call = nat_lt 0 (next_component t (event_or call.op) call.moments)
+-- a look takes the place of those of its component and of later ones
+abbrev pub looks_after : Option Look → List Look → List Look
+looks_after None looks = []
+looks_after (Some look) looks = take look.component looks ++ look ∷ []
 
-abbrev pub is_in_round : Tables → ℕ → List Entry → Bool
-is_in_round t w past = option_map_or (has_begun t) (under_way w past) false
-
--- what remains of what was found: a `go` adds to it, and any other act begins again
-abbrev pub looks_continued_by : Act → List Look → List Look
-looks_continued_by act looks = if is_go act then looks else []
-
--- what was found, with an act that finds this, if its round goes on
-abbrev pub looks_after_act : Bool → Act → Option Look → List Look → List Look
-looks_after_act goes_on act look looks =
-    if goes_on then looks_continued_by act looks ++ option_to_list look else []
+-- these looks begin with what the round that w is in after a reversed history has found
+abbrev pub KeepsRound : Tables → ℕ → List Entry → List Look → Type 0
+KeepsRound t w past looks =
+    take (option_map_or (components_read t) (under_way w past) 0) looks ≡ looks_so_far t w past

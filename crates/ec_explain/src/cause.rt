@@ -233,20 +233,19 @@ impl Cause {
             Cause::Long => b"Look for a missing LF: a line has at most 8192 bytes.",
             Cause::Mark => b"Save the text without one.",
             Cause::Return => b"End each line with LF alone, for example by: tr -d '\\r'",
-            Cause::Tab => b"Separate words by one space.",
+            Cause::Tab | Cause::TwoSpaces => b"Separate words by one space.",
             Cause::Empty => b"Remove it: a text has no empty lines.",
             Cause::Comment => b"Remove it: a text has no comments.",
             Cause::SpaceBefore => b"Remove the space: lines are not indented.",
             Cause::SpaceAfter => b"Remove the space.",
-            Cause::TwoSpaces => b"Separate words by one space.",
             Cause::OtherVersion =>
                 b"The versions are evc-trace 1, evc-trace 2, evc-script 1, evc-script 2 and \
                   evc-calls 1.",
             Cause::NoHeader =>
                 b"Begin a trace with evc-trace 1, a script with evc-script 1, a history of \
                   calls with evc-calls 1.",
-            Cause::NoLimit => b"Write the word limit and a number, as in: limit 100",
-            Cause::LimitWords => b"Write the word limit and a number, as in: limit 100",
+            Cause::NoLimit | Cause::LimitWords =>
+                b"Write the word limit and a number, as in: limit 100",
             Cause::LimitNoNumber =>
                 b"Write it in digits, without a sign and without leading zeros.",
             Cause::LimitZero => b"Write 1 or more: it says how far each count may go.",

@@ -1,22 +1,12 @@
 //! What is wrong with a line that should be an entry.
 ghost use Rattle.std.specs.Prelude.{◌≡◌, ◌≤◌, IfSome};
-ghost use Rattle.ec_explain.specs.Causes.{act_words, equals_place, has_object, lacks_value};
-ghost use Rattle.ec_explain.specs.Causes.{is_reply, act_cause, reply_cause, entry_cause, is_hand};
+ghost use Rattle.ec_explain.specs.Causes.{act_words, equals_place, has_object, is_reply};
+ghost use Rattle.ec_explain.specs.Causes.{act_cause, reply_cause, entry_cause};
 
 use crate::cause::Cause;
 use crate::words::{is_among, is_same, word_at};
 use ec_heading::Heading;
 use ec_text::number;
-
-static PAIRS: [&str; 4] = ["advance", "read", "ticket", "get"];
-
-static TRIPLES: [&str; 3] = ["await", "put", "hand"];
-
-static ON_CELLS: [&str; 2] = ["put", "get"];
-
-static WITH_VALUES: [&str; 2] = ["await", "put"];
-
-static REPLIES: [&str; 2] = ["done", "pending"];
 
 /// Returns how many words an act has that begins with this one.
 fn act_words(verb: &[u8]) -> Option<usize>
@@ -26,10 +16,10 @@ fn act_words(verb: &[u8]) -> Option<usize>
     if is_same(verb, b"go".as_slice()) {
         return Some(1);
     }
-    if is_among(&PAIRS, verb) {
+    if is_among(&["advance", "read", "ticket", "get"], verb) {
         return Some(2);
     }
-    if is_among(&TRIPLES, verb) {
+    if is_among(&["await", "put", "hand"], verb) {
         return Some(3);
     }
     None
@@ -46,13 +36,6 @@ pub(crate) fn equals_place(line: &[u8]) -> usize
     }
 }
 
-/// Returns whether the act is a `hand`.
-fn is_hand(verb: &[u8]) -> bool
-    ensures { result ≡ is_hand verb.now }
-{
-    is_same(verb, b"hand".as_slice())
-}
-
 /// Returns whether a word is an object that the act may name, if it names one.
 fn has_object(heading: &Heading, verb: &[u8], word: &[u8]) -> bool
     ensures { result ≡ has_object heading.now.words verb.now word.now }
@@ -63,24 +46,17 @@ fn has_object(heading: &Heading, verb: &[u8], word: &[u8]) -> bool
     if is_same(verb, b"ticket".as_slice()) {
         return heading.sequencer(word).is_some();
     }
-    if is_among(&ON_CELLS, verb) {
+    if is_among(&["put", "get"], verb) {
         return heading.cell(word).is_some();
     }
     heading.event(word).is_some()
-}
-
-/// Returns whether an act has a value, and the word is none.
-fn lacks_value(verb: &[u8], word: &[u8]) -> bool
-    ensures { result ≡ lacks_value verb.now word.now }
-{
-    is_among(&WITH_VALUES, verb) && number(word).is_none()
 }
 
 /// Returns whether a word is a reply.
 fn is_reply(word: &[u8]) -> bool
     ensures { result ≡ is_reply word.now }
 {
-    is_among(&REPLIES, word) || number(word).is_some()
+    is_among(&["done", "pending"], word) || number(word).is_some()
 }
 
 /// Returns what is wrong with the worker, the act and its object.
@@ -94,7 +70,7 @@ fn act_cause(heading: &Heading, line: &[u8]) -> Option<Cause>
     if act_words(verb).is_none() {
         return Some(Cause::NoAct);
     }
-    if is_hand(verb) && !heading.version().has_transfer() {
+    if is_same(verb, b"hand".as_slice()) && !heading.version().has_transfer() {
         return Some(Cause::HandInOne);
     }
     if !has_object(heading, verb, word_at(2, line)) {
@@ -109,10 +85,10 @@ fn reply_cause(heading: &Heading, line: &[u8]) -> Cause
 {
     let verb = word_at(1, line);
     let third = word_at(3, line);
-    if lacks_value(verb, third) {
+    if is_among(&["await", "put"], verb) && number(third).is_none() {
         return Cause::NoValue;
     }
-    if is_hand(verb) && heading.worker(third).is_none() {
+    if is_same(verb, b"hand".as_slice()) && heading.worker(third).is_none() {
         return Cause::NoReceiver;
     }
     let equals = equals_place(line);

@@ -1,10 +1,9 @@
 //! What is found wrong with a text.
 ghost use Rattle.std.specs.Prelude.{◌≡◌};
 ghost use Rattle.ec_explain.specs.Findings.{finding_of_line, finding_by_bytes, finding_at};
-ghost use Rattle.ec_explain.specs.Findings.{refusal_cause};
-ghost use Rattle.ec_explain.specs.Findings.{reason_line, finding_of_refusal, begun_line};
-ghost use Rattle.ec_explain.specs.Findings.{finding_of_wrong_reply};
-ghost use Rattle.ec_explain.specs.Findings.{find_early_end, find_missing_end, finding_of_text};
+ghost use Rattle.ec_explain.specs.Findings.{refusal_cause, reason_line, finding_of_refusal};
+ghost use Rattle.ec_explain.specs.Findings.{begun_line, finding_of_wrong_reply, find_early_end};
+ghost use Rattle.ec_explain.specs.Findings.{find_missing_end, finding_of_text};
 
 use crate::cause::Cause;
 use crate::entry::equals_place;
@@ -41,21 +40,19 @@ pub fn finding_at(cause: Cause, number: u64, place: usize) -> Finding
     ensures { result ≡ finding_at cause number place }
 {
     Finding {
-        cause,
         spot: Some(LinePosition { number, place }),
-        right: None,
-        see: None,
+        ..finding_of_text(cause)
     }
 }
 
 /// Returns the cause that the bytes of a line show by themselves; if they show none, this one, at
-/// this place.
-pub(crate) fn finding_by_bytes(cause: Cause, number: u64, place: usize, line: &[u8]) -> Finding
-    ensures { result ≡ finding_by_bytes cause number place line.now }
+/// the word with this index.
+pub(crate) fn finding_by_bytes(cause: Cause, number: u64, word: usize, line: &[u8]) -> Finding
+    ensures { result ≡ finding_by_bytes cause number word line.now }
 {
     match line_cause(line) {
         Some(cause) => finding_at(cause, number, place_at(&Site::Unknown, cause, line)),
-        None => finding_at(cause, number, place),
+        None => finding_at(cause, number, word_start(word, line)),
     }
 }
 

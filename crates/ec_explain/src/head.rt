@@ -3,30 +3,23 @@ ghost use Rattle.std.specs.Prelude.{◌≡◌, is_some};
 ghost use Rattle.std.specs.List.{list_all};
 ghost use Rattle.ec_count.specs.Reserved.{is_name_byte};
 ghost use Rattle.ec_heading.specs.DeclKinds.{sort_of};
-ghost use Rattle.ec_explain.specs.Places.{word_at};
-ghost use Rattle.ec_explain.specs.Causes.{is_header, first_cause, limit_cause, has_name_form};
+ghost use Rattle.ec_explain.specs.Causes.{first_cause, limit_cause, has_name_form};
 ghost use Rattle.ec_explain.specs.Causes.{name_cause, head_cause, bad_name_place, new_name_place};
 ghost use Rattle.ec_explain.specs.Causes.{workers_cause, declaration_cause};
 
 use crate::cause::Cause;
-use crate::words::{is_same, names_before, word_at};
+use crate::words::{WordTest, is_same, word_at, words_before};
 use ec_heading::{HeadFault, Heading, count_words};
 use ec_text::{cut_word, is_number_form};
 
-/// Returns whether a line begins as the first line of some version does.
-fn is_header(line: &[u8]) -> bool
-    ensures { result ≡ is_header line.now }
-{
-    line.starts_with(b"evc-trace".as_slice())
-        || line.starts_with(b"evc-script".as_slice())
-        || line.starts_with(b"evc-calls".as_slice())
-}
-
-/// Returns what is wrong with a first line.
+/// Returns what is wrong with a first line, which begins as that of some version does, or not.
 pub(crate) fn first_cause(line: &[u8]) -> Cause
     ensures { result ≡ first_cause line.now }
 {
-    if is_header(line) {
+    if line.starts_with(b"evc-trace".as_slice())
+        || line.starts_with(b"evc-script".as_slice())
+        || line.starts_with(b"evc-calls".as_slice())
+    {
         return Cause::OtherVersion;
     }
     Cause::NoHeader
@@ -71,7 +64,7 @@ fn has_name_form(word: &[u8]) -> bool
 }
 
 /// Returns what is wrong with a word that is no name.
-fn name_cause(word: &[u8]) -> Cause
+pub(crate) fn name_cause(word: &[u8]) -> Cause
     ensures { result ≡ name_cause word.now }
 {
     if word.len() > 16 {
@@ -105,7 +98,7 @@ pub(crate) fn bad_name_place(line: &[u8]) -> usize
 {
     match cut_word(line) {
         (_, None) => 1,
-        (_, Some(list)) => 1 + names_before(list),
+        (_, Some(list)) => 1 + words_before(&WordTest::Name, list),
     }
 }
 
@@ -121,21 +114,11 @@ pub(crate) fn new_name_place(line: &[u8]) -> usize
     }
 }
 
-/// Returns what is wrong with a line of a header, by its lowest fault.
-pub(crate) fn named_cause(fault: HeadFault, line: &[u8]) -> Cause
-    ensures { result ≡ head_cause fault (word_at (new_name_place line.now) line.now) }
-{
-    head_cause(fault, word_at(new_name_place(line), line))
-}
-
 /// Returns what is wrong with a line that should name the workers.
 pub(crate) fn workers_cause(fault: HeadFault, line: &[u8]) -> Cause
     ensures { result ≡ workers_cause fault line.now }
 {
-    if !is_same(word_at(0, line), b"workers".as_slice()) {
-        return Cause::NoWorkers;
-    }
-    if count_words(line) == 1 {
+    if !is_same(word_at(0, line), b"workers".as_slice()) || count_words(line) == 1 {
         return Cause::NoWorkers;
     }
     head_cause(fault, word_at(bad_name_place(line), line))

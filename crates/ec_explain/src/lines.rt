@@ -2,9 +2,7 @@
 ghost use Rattle.std.specs.Prelude.{◌≡◌, ◌≤◌, ◌<◌, ◌==◌, IfSome, length};
 ghost use Rattle.std.specs.List.{position_from};
 ghost use Rattle.ec_explain.specs.TextLines.{text_before_line, text_after_lines, text_after_line};
-ghost use Rattle.ec_explain.specs.TextLines.{first_line};
-ghost use Rattle.ec_explain.specs.TextLines.{line_at};
-ghost use Rattle.ec_explain.specs.TextLines.{lines_in, position_or_end};
+ghost use Rattle.ec_explain.specs.TextLines.{first_line, line_at, lines_in, position_or_end};
 
 /// Returns the index of the first such byte.
 fn position_of(sign: u8, bytes: &[u8]) -> Option<usize>

@@ -5,14 +5,11 @@ ghost use Rattle.ec_explain.specs.Causes.{unknown_place, word_place, place_at};
 
 use crate::cause::Cause;
 use crate::entry::{entry_cause, equals_place};
-use crate::head::{
-    bad_name_place, declaration_cause, first_cause, limit_cause, named_cause, new_name_place,
-    workers_cause,
-};
+use crate::head::{bad_name_place, declaration_cause, first_cause, limit_cause, workers_cause};
 use crate::line::line_cause;
 use crate::lines::position_or_end;
 use crate::site::Site;
-use crate::words::{full_before, listed_before, word_start};
+use crate::words::{WordTest, word_start, words_before};
 use ec_heading::{Heading, LINE_MAX};
 use ec_text::cut_word;
 
@@ -27,9 +24,6 @@ fn site_cause(site: &Site<'_>, line: &[u8]) -> Cause
         Site::Declaration(heading, fault) => declaration_cause(heading, *fault, line),
         Site::Entry(heading) => entry_cause(heading, line),
         Site::Behind => Cause::AfterEnd,
-        Site::Heading(fault) => named_cause(*fault, line),
-        Site::Script => Cause::ScriptForm,
-        Site::Calls => Cause::CallsForm,
         Site::Unknown => Cause::Other,
     }
 }
@@ -50,7 +44,6 @@ fn name_place(site: &Site<'_>, line: &[u8]) -> usize
 {
     match site {
         Site::Workers(_) => bad_name_place(line),
-        Site::Heading(_) => new_name_place(line),
         _ => 1,
     }
 }
@@ -65,7 +58,7 @@ fn first_unlisted(heading: &Heading, line: &[u8]) -> usize
     let (_, Some(rest)) = cut_word(rest) else {
         return 2;
     };
-    2 + listed_before(heading, rest)
+    2 + words_before(&WordTest::Listed(heading), rest)
 }
 
 /// Returns the index of the word in a list that is no worker.
@@ -83,7 +76,7 @@ fn word_place(site: &Site<'_>, cause: Cause, line: &[u8]) -> usize
     ensures { result ≡ word_place site.now cause line.now }
 {
     match cause {
-        Cause::TwoSpaces => full_before(line),
+        Cause::TwoSpaces => words_before(&WordTest::Full, line),
         Cause::LimitWords | Cause::NoObject | Cause::BadNumber => 2,
         Cause::LimitNoNumber
         | Cause::LimitZero

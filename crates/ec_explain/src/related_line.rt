@@ -1,8 +1,7 @@
 //! Which other line of a text shows why a line is rejected.
 ghost use Rattle.std.specs.Prelude.{◌≡◌, None, Some, if◌then◌else◌};
 ghost use Rattle.ec_explain.specs.RelatedLine.{base_of, call_line, declaration_line, fits};
-ghost use Rattle.ec_explain.specs.RelatedLine.{hand_line};
-ghost use Rattle.ec_explain.specs.RelatedLine.{last_in, lines_of, right_line};
+ghost use Rattle.ec_explain.specs.RelatedLine.{hand_line, last_in, lines_of, right_line};
 
 use crate::lines::{line_at, position_or_end, text_before_line};
 use crate::words::{is_same, word_at};

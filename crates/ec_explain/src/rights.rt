@@ -1,17 +1,13 @@
 //! Which right the act of a line needs, and who has it.
 ghost use Rattle.std.specs.Prelude.{◌≡◌, ◌<◌, ◌++◌, ◌∷◌, [], IfOk, OnOk, reverse, if◌then◌else◌};
 ghost use Rattle.ec_core.specs.Acceptance.{has_right};
-ghost use Rattle.ec_explain.specs.Rights.{parse_act, asked_by, asked_in, holders};
+ghost use Rattle.ec_explain.specs.Rights.{parse_act, asked_in, holders};
 
 use crate::words::{is_among, is_same, word_at};
 use ec_core::{Act, Run};
 use ec_count::WorkerId;
 use ec_heading::Heading;
 use std::alloc::{AllocError, Global};
-
-static SIGNALLING: [&str; 2] = ["advance", "hand"];
-
-static OBSERVING: [&str; 2] = ["read", "await"];
 
 /// A worker, and the right that it needs.
 #[derive(Clone, Copy, Debug, PartialEq, Eq)]
@@ -28,10 +24,10 @@ fn parse_act(heading: &Heading, verb: &[u8], word: &[u8]) -> Option<Act>
     if is_same(verb, b"go".as_slice()) {
         return Some(Act::Go);
     }
-    if is_among(&SIGNALLING, verb) {
+    if is_among(&["advance", "hand"], verb) {
         return Some(Act::Advance(heading.event(word)?));
     }
-    if is_among(&OBSERVING, verb) {
+    if is_among(&["read", "await"], verb) {
         return Some(Act::Read(heading.event(word)?));
     }
     if is_same(verb, b"ticket".as_slice()) {
@@ -46,28 +42,14 @@ fn parse_act(heading: &Heading, verb: &[u8], word: &[u8]) -> Option<Act>
     None
 }
 
-/// Returns a worker with its act, if there is an act.
-fn asked_by(act: Option<Act>, worker: WorkerId) -> Option<Asked>
-    ensures { result ≡ asked_by act worker }
-{
-    match act {
-        Some(act) => Some(Asked { worker, act }),
-        None => None,
-    }
-}
-
 /// Returns the worker of a line, and the right that its act needs.
+#[tactic(auto, unfolding(crate::specs::Rights::asked_in))]
 pub fn asked_in(heading: &Heading, line: &[u8]) -> Option<Asked>
     ensures { result ≡ asked_in heading.now line.now }
 {
-    let first = word_at(0, line);
-    let verb = word_at(1, line);
-    let object = word_at(2, line);
-    let act = parse_act(heading, verb, object);
-    match heading.worker(first) {
-        Some(worker) => asked_by(act, worker),
-        None => None,
-    }
+    let worker = heading.worker(word_at(0, line))?;
+    let act = parse_act(heading, word_at(1, line), word_at(2, line))?;
+    Some(Asked { worker, act })
 }
 
 /// Returns whether a worker has the right to an act at the end of a run.

@@ -1,13 +1,9 @@
 //! What a read or an await has read in its round.
-ghost use Rattle.std.specs.Prelude.{◌≡◌, ◌++◌, ◌∷◌, [], List, IfOk, OnOk, Ok, length};
-ghost use Rattle.std.specs.Prelude.{option_to_list, reverse};
+ghost use Rattle.std.specs.Prelude.{◌≡◌, ◌++◌, ◌∷◌, [], List, IfOk, OnOk, Ok, length, reverse};
 ghost use Rattle.ec_core.specs.declared.act.Entry.{Entry};
 ghost use Rattle.ec_core.specs.Acceptance.{answer_of};
-ghost use Rattle.ec_core.specs.Calls.{is_go};
 ghost use Rattle.ec_core.specs.Standing.{StandsFor};
-ghost use Rattle.ec_explain.specs.Rounds.{is_in_round, looks_after_act, looks_continued_by};
-ghost use Rattle.ec_explain.specs.Rounds.{look_at, looks_so_far};
-ghost use Rattle.ec_explain.specs.Rounds.{looks_with, next_look};
+ghost use Rattle.ec_explain.specs.Rounds.{KeepsRound, look_at, looks_after, looks_with, next_look};
 
 use ec_core::{Act, Entry, Run, World};
 use ec_count::{EventId, WorkerId};
@@ -65,58 +61,21 @@ fn next_look(world: &World, worker: WorkerId, act: &Act, position: usize) -> Opt
     }
 }
 
-/// Returns whether a worker is within a round.
-fn is_in_round(world: &World, worker: WorkerId) -> bool
-    ensures { (h : List Entry) → StandsFor world.now h
-        → result ≡ is_in_round world.now.setup worker (reverse h) }
-{
-    match world.under_way(worker) {
-        Some(call) => call.index() > 0,
-        None => false,
-    }
-}
-
-/// Returns whether an act goes on with a call.
-fn is_go(act: &Act) -> bool
-    ensures { result ≡ is_go act.now }
-{
-    matches!(*act, Act::Go)
-}
-
-/// Drops what was found before an act that begins a call.
-fn begin_by(looks: &mut Vec<Look>, act: &Act)
-    ensures { looks.new.items ≡ looks_continued_by act.now looks.old.items }
-{
-    if !is_go(act) {
-        looks.clear();
-    }
-}
-
-/// Adds what an act found, if it found something.
+/// Adds what an act found, in place of what was found of its component and of later ones; drops all
+/// if it found nothing.
 fn add_look(looks: &mut Vec<Look>, look: Option<Look>) -> Result<(), AllocError>
-    ensures { OnOk result (looks.new.items ≡ looks.old.items ++ option_to_list look) }
+    ensures { OnOk result (looks.new.items ≡ looks_after look looks.old.items) }
 {
     match look {
-        Some(look) => looks.extend_from_slice(&[look]),
-        None => Ok(()),
+        Some(look) => {
+            looks.truncate(look.component);
+            looks.extend_from_slice(&[look])
+        }
+        None => {
+            looks.clear();
+            Ok(())
+        }
     }
-}
-
-/// Adds what an act found, if its round goes on; otherwise drops what the round found.
-fn update_looks(
-    looks: &mut Vec<Look>,
-    goes_on: bool,
-    act: &Act,
-    look: Option<Look>,
-) -> Result<(), AllocError>
-    ensures { OnOk result (looks.new.items ≡ looks_after_act goes_on act.now look looks.old.items) }
-{
-    if !goes_on {
-        looks.clear();
-        return Ok(());
-    }
-    begin_by(looks, act);
-    add_look(looks, look)
 }
 
 /// Makes the step of an entry.
@@ -144,9 +103,8 @@ fn take(
     ensures looks { (h : List Entry) → StandsFor world.old h
         → answer_of world.old.setup (reverse h) entry.now.worker entry.now.act ≡ Ok entry.now.reply
         → position ≡ length (reverse h)
-        → looks.old.items ≡ looks_so_far world.old.setup worker (reverse h)
-        → OnOk result (looks.new.items
-        ≡ looks_so_far world.old.setup worker (entry.now ∷ reverse h)) }
+        → KeepsRound world.old.setup worker (reverse h) looks.old.items
+        → OnOk result (KeepsRound world.old.setup worker (entry.now ∷ reverse h) looks.new.items) }
 {
     if !entry.is_of(worker) {
         enter(world, entry);
@@ -154,24 +112,7 @@ fn take(
     }
     let look = next_look(world, worker, &entry.act, position);
     enter(world, entry);
-    let goes_on = is_in_round(world, worker);
-    update_looks(looks, goes_on, &entry.act, look)
-}
-
-/// Returns what the round of a worker has found at the end of a run.
-fn looks_so_far(alloc: Global, run: &Run, worker: WorkerId) -> Result<Vec<Look>, AllocError>
-    ensures { IfOk result (λ looks. looks.items ≡ looks_so_far run.now.setup worker
-        (reverse run.now.entries)) }
-{
-    run.invariant();
-    let mut world = World::open(run.setup().copy());
-    let mut looks = Vec::new(alloc);
-    for position in 0..run.len() {
-        if let Some(entry) = run.entry(position) {
-            take(&mut looks, &mut world, worker, &entry, position)?;
-        }
-    }
-    Ok(looks)
+    add_look(looks, look)
 }
 
 /// Returns what the round of a worker has found, with its act at the end of a run.
@@ -186,8 +127,15 @@ pub fn looks_with(
     ensures { IfOk result (λ looks. looks.items ≡ looks_with run.now.setup worker
         (reverse run.now.entries) act.now) }
 {
-    let mut looks = looks_so_far(alloc, run, worker)?;
+    run.invariant();
+    let mut world = World::open(run.setup().copy());
+    let mut looks = Vec::new(alloc);
+    for position in 0..run.len() {
+        if let Some(entry) = run.entry(position) {
+            take(&mut looks, &mut world, worker, &entry, position)?;
+        }
+    }
     let look = next_look(run.world(), worker, act, run.len());
-    update_looks(&mut looks, true, act, look)?;
+    add_look(&mut looks, look)?;
     Ok(looks)
 }

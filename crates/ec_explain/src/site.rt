@@ -16,12 +16,6 @@ pub enum Site<'a> {
     Entry(&'a Heading),
     /// It is after `end`.
     Behind,
-    /// It is in a header, and has this lowest fault.
-    Heading(HeadFault),
-    /// It is in a script, and has none of the forms allowed there.
-    Script,
-    /// It is in a history of calls, and has none of the forms allowed there.
-    Calls,
     /// It is not known where it is.
     Unknown,
 }

@@ -2,9 +2,8 @@
 ghost use Rattle.std.specs.Prelude.{◌≡◌, ◌≤◌, ◌+◌, bytes_eq, length};
 ghost use Rattle.std.specs.List.{list_any};
 ghost use Rattle.ec_text.specs.Words.{words_of};
-ghost use Rattle.ec_explain.specs.Places.{word_at, behind_first, bytes_before, word_start};
-ghost use Rattle.ec_explain.specs.Places.{is_listed};
-ghost use Rattle.ec_explain.specs.Places.{names_before, listed_before, full_before};
+ghost use Rattle.ec_explain.specs.Places.{word_at, bytes_before, word_start, words_before};
+ghost use Rattle.ec_explain.specs.Places.{word_test};
 
 use ec_count::is_name;
 use ec_heading::Heading;
@@ -65,54 +64,43 @@ pub(crate) fn word_start(place: usize, line: &[u8]) -> usize
     bytes_before(place, line).min(line.len())
 }
 
-/// Returns whether a word may follow the name of a declaration.
-fn is_listed(heading: &Heading, word: &[u8]) -> bool
-    ensures { result ≡ is_listed heading.now.words word.now }
-{
-    heading.worker(word).is_some() || number(word).is_some() || is_among(&LIST_OPENERS, word)
+/// A test of a word.
+#[derive(Drop)]
+pub(crate) enum WordTest<'a> {
+    /// It is a name.
+    Name,
+    /// It may follow the name of a declaration under this header.
+    Listed(&'a Heading),
+    /// It has a byte.
+    Full,
 }
 
-/// Returns how many words come before the first that is no name.
-pub(crate) fn names_before(list: &[u8]) -> usize
-    ensures value { result ≡ names_before (words_of list.now) }
+/// Returns whether a word passes a test.
+fn passes(test: &WordTest<'_>, word: &[u8]) -> bool
+    ensures { result ≡ word_test test.now word.now }
+{
+    match test {
+        WordTest::Name => is_name(word),
+        WordTest::Listed(heading) => {
+            heading.worker(word).is_some()
+                || number(word).is_some()
+                || is_among(&LIST_OPENERS, word)
+        }
+        WordTest::Full => !word.is_empty(),
+    }
+}
+
+/// Returns how many words come before the first that fails a test.
+pub(crate) fn words_before(test: &WordTest<'_>, list: &[u8]) -> usize
+    ensures value { result ≡ words_before (word_test test.now) (words_of list.now) }
     ensures few { result ≤ length list.now + 1 }
 {
     let (word, rest) = cut_word(list);
-    if !is_name(word) {
+    if !passes(test, word) {
         return 0;
     }
     match rest {
         None => 1,
-        Some(rest) => 1 + names_before(rest),
-    }
-}
-
-/// Returns how many words come before the first that may not follow a declaration's name.
-pub(crate) fn listed_before(heading: &Heading, list: &[u8]) -> usize
-    ensures value { result ≡ listed_before heading.now.words (words_of list.now) }
-    ensures few { result ≤ length list.now + 1 }
-{
-    let (word, rest) = cut_word(list);
-    if !is_listed(heading, word) {
-        return 0;
-    }
-    match rest {
-        None => 1,
-        Some(rest) => 1 + listed_before(heading, rest),
-    }
-}
-
-/// Returns how many words come before the first that is empty.
-pub(crate) fn full_before(line: &[u8]) -> usize
-    ensures value { result ≡ full_before (words_of line.now) }
-    ensures few { result ≤ length line.now + 1 }
-{
-    let (word, rest) = cut_word(line);
-    if word.is_empty() {
-        return 0;
-    }
-    match rest {
-        None => 1,
-        Some(rest) => 1 + full_before(rest),
+        Some(rest) => 1 + words_before(test, rest),
     }
 }

@@ -1,15 +1,12 @@
 //! What is found wrong with a text, as lines.
 ghost use Rattle.std.specs.Prelude.{◌≡◌};
 ghost use Rattle.std.specs.List.{flat_map};
-ghost use Rattle.ec_heading.specs.Spelling.{reply_word};
+ghost use Rattle.ec_heading.specs.Spelling.{ended_line, reply_word};
 ghost use Rattle.ec_text.specs.Puts.{Puts};
 ghost use Rattle.ec_explain.specs.Findings.{plain, plain_byte, shown_from, shown_bytes, spaces};
-ghost use Rattle.ec_explain.specs.Findings.{line_seen, line_text, remedy_text, right_text};
-ghost use Rattle.ec_explain.specs.Findings.{see_front};
-ghost use Rattle.ec_explain.specs.Findings.{see_text, sentence_text, spot_text, spot_or_none};
-ghost use Rattle.ec_explain.specs.Findings.{why_text, found_text, finding_text};
+ghost use Rattle.ec_explain.specs.Findings.{line_seen, line_text, right_text, see_text};
+ghost use Rattle.ec_explain.specs.Findings.{spot_or_none, finding_text};
 
-use crate::cause::Cause;
 use crate::finding::{Finding, LinePosition};
 use crate::lines::line_at;
 use ec_core::Reply;
@@ -23,19 +20,12 @@ fn plain(byte: u8) -> u8
     if byte >= 32 && byte < 127 { byte } else { b'?' }
 }
 
-/// Puts a byte as it is shown.
-fn put_plain<W: Write>(out: &mut Output<'_, W>, byte: u8)
-    ensures { Puts out.old out.new (plain_byte byte) }
-{
-    out.put(&[plain(byte)]);
-}
-
 /// Puts bytes as they are shown.
 fn put_plain_bytes<W: Write>(out: &mut Output<'_, W>, bytes: &[u8])
     ensures { Puts out.old out.new (flat_map plain_byte bytes.now) }
 {
     for byte in bytes {
-        put_plain(out, *byte);
+        out.put_byte(plain(*byte));
     }
 }
 
@@ -66,7 +56,7 @@ fn shown_bytes(place: usize, line: &[u8]) -> &[u8]
 
 /// Puts the number of a line, and what is shown of the line.
 #[tactic(auto, unfolding(crate::specs::Findings::line_text))]
-fn put_line<W: Write>(out: &mut Output<'_, W>, spot: &LinePosition, line: &[u8])
+fn put_numbered<W: Write>(out: &mut Output<'_, W>, spot: &LinePosition, line: &[u8])
     ensures { Puts out.old out.new (line_text spot.now line.now) }
 {
     out.put(b"line ");
@@ -76,32 +66,15 @@ fn put_line<W: Write>(out: &mut Output<'_, W>, spot: &LinePosition, line: &[u8])
     out.put(b"\n    ");
 }
 
-/// Puts a line, and a mark under the place.
-#[tactic(auto, unfolding(crate::specs::Findings::spot_text))]
-fn put_spot<W: Write>(out: &mut Output<'_, W>, spot: &LinePosition, line: &[u8])
-    ensures { Puts out.old out.new (spot_text spot.now line.now) }
-{
-    put_line(out, spot, line);
-    put_spaces(out, spot.place.saturating_sub(shown_from(spot.place)));
-    out.put(b"^\n");
-}
-
-/// Puts the line that shows a cause, if one does.
+/// Puts the line that shows a cause, if one does, and a mark under the place.
 fn put_spot_or_none<W: Write>(out: &mut Output<'_, W>, spot: &Option<LinePosition>, text: &[u8])
     ensures { Puts out.old out.new (spot_or_none spot.now text.now) }
 {
     if let Some(spot) = spot {
-        put_spot(out, spot, line_at(spot.number, text));
+        put_numbered(out, spot, line_at(spot.number, text));
+        put_spaces(out, spot.place.saturating_sub(shown_from(spot.place)));
+        out.put(b"^\n");
     }
-}
-
-/// Puts what is wrong.
-#[tactic(auto, unfolding(crate::specs::Findings::sentence_text))]
-fn put_sentence<W: Write>(out: &mut Output<'_, W>, cause: Cause)
-    ensures { Puts out.old out.new (sentence_text cause) }
-{
-    out.put(cause.sentence());
-    out.put(b"\n");
 }
 
 /// Puts the word of a reply.
@@ -126,22 +99,14 @@ fn put_right<W: Write>(out: &mut Output<'_, W>, right: &Option<Reply>)
     }
 }
 
-/// Puts the number of another line that shows why.
-#[tactic(auto, unfolding(crate::specs::Findings::see_front))]
-fn put_see_front<W: Write>(out: &mut Output<'_, W>, number: u64)
-    ensures { Puts out.old out.new (see_front number) }
-{
-    out.put(b"See line ");
-    out.put_number(number);
-    out.put(b": ");
-}
-
 /// Puts another line that shows why, with its number.
 #[tactic(auto, unfolding(crate::specs::Findings::line_seen))]
 pub fn put_line_seen<W: Write>(out: &mut Output<'_, W>, number: u64, place: usize, line: &[u8])
     ensures { Puts out.old out.new (line_seen number place line.now) }
 {
-    put_see_front(out, number);
+    out.put(b"See line ");
+    out.put_number(number);
+    out.put(b": ");
     put_plain_bytes(out, shown_bytes(place, line));
     out.put(b"\n");
 }
@@ -156,33 +121,12 @@ fn put_see<W: Write>(out: &mut Output<'_, W>, see: Option<usize>, text: &[u8])
     }
 }
 
-/// Puts how to mend it.
-#[tactic(auto, unfolding(crate::specs::Findings::remedy_text))]
-fn put_remedy<W: Write>(out: &mut Output<'_, W>, cause: Cause)
-    ensures { Puts out.old out.new (remedy_text cause) }
+/// Puts a sentence as a line.
+fn put_line<W: Write>(out: &mut Output<'_, W>, sentence: &[u8])
+    ensures { Puts out.old out.new (ended_line sentence.now) }
 {
-    out.put(cause.remedy());
+    out.put(sentence);
     out.put(b"\n");
-}
-
-/// Puts what is wrong, and why.
-#[tactic(auto, unfolding(crate::specs::Findings::why_text))]
-fn put_why<W: Write>(out: &mut Output<'_, W>, finding: &Finding, text: &[u8])
-    ensures { Puts out.old out.new (why_text finding.now text.now) }
-{
-    put_sentence(out, finding.cause);
-    put_right(out, &finding.right);
-    put_see(out, finding.see, text);
-}
-
-/// Puts the line with a mark under the place, if a line shows what is wrong; what is wrong; and
-/// why.
-#[tactic(auto, unfolding(crate::specs::Findings::found_text))]
-fn put_found<W: Write>(out: &mut Output<'_, W>, finding: &Finding, text: &[u8])
-    ensures { Puts out.old out.new (found_text finding.now text.now) }
-{
-    put_spot_or_none(out, &finding.spot, text);
-    put_why(out, finding, text);
 }
 
 /// Puts what is found wrong with a text, and how to mend it.
@@ -194,7 +138,10 @@ fn put_found<W: Write>(out: &mut Output<'_, W>, finding: &Finding, text: &[u8])
 pub fn put_finding<W: Write>(out: &mut Output<'_, W>, finding: &Finding, more: &[u8], text: &[u8])
     ensures { Puts out.old out.new (finding_text finding.now more.now text.now) }
 {
-    put_found(out, finding, text);
+    put_spot_or_none(out, &finding.spot, text);
+    put_line(out, finding.cause.sentence());
+    put_right(out, &finding.right);
+    put_see(out, finding.see, text);
     out.put(more);
-    put_remedy(out, finding.cause);
+    put_line(out, finding.cause.remedy());
 }

@@ -1,5 +1,5 @@
 -- Schedules that continue another one.
-use Rattle.std.proofs.Common.{◌≡◌, ◌∙◌, ℕ, ◌≤◌, ◌<◌, ◌+◌, ◌-◌, List, [], ◌∷◌, ◌++◌, length, take, refl}
+use Rattle.std.proofs.Common.{◌≡◌, ◌∙◌, ℕ, ◌≤◌, ◌<◌, ◌+◌, ◌-◌, List, [], ◌∷◌, ◌++◌, length, take}
 use Rattle.std.proofs.Common.{zero, suc, ap, sym, arith, append_assoc, append-nil}
 use Rattle.std.specs.List.{All}
 use Rattle.std.proofs.Math.Seq.{take-append-add}

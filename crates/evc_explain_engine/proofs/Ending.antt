@@ -13,7 +13,7 @@ use Rattle.ec_runner.specs.Reported.{IsReport}
 use Rattle.ec_script.specs.declared.plan.Plan.{Plan}
 use Rattle.evc_explain_engine.specs.declared.worker_ends.End.{End}
 use Rattle.evc_explain_engine.specs.WorkerEnds.{ends_from, can_continue}
-use Rattle.evc_explain_engine.specs.Continuation.{Continues, IsMaximalRun, AreFinalEnds, IsContinuationText, final_ends_text, ends_after}
+use Rattle.evc_explain_engine.specs.Continuation.{Continues, AreFinalEnds, IsContinuationText, final_ends_text, ends_after}
 use Rattle.evc_explain_engine.proofs.Continuing.{continues_more}
 
 each_end : (t : Tables) (past : List Entry) (s : List ℕ) (w : ℕ) (os : List Outcome)

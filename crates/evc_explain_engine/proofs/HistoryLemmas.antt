@@ -4,7 +4,7 @@ use Rattle.std.proofs.Common.{◌==◌, true, arith}
 use Rattle.std.proofs.lemmas.Bool.{eqb-true}
 use Rattle.calls_text.specs.declared.fault.TextFault.{TextFault}
 use Rattle.calls_text.specs.declared.fault.TextFault.TheVariants.{At, Memory}
-use Rattle.calls_text.specs.Outcomes.{parse_from, lines_of_text, ReturnsFault}
+use Rattle.calls_text.specs.Outcomes.{OneRead, parse_from, lines_of_text, ReturnsFault}
 use Rattle.calls_text.specs.Reading.{Opening}
 use Rattle.evc_explain_engine.specs.declared.explanation.Explanation.{Explanation}
 use Rattle.evc_explain_engine.specs.Histories.{IsUnread, Judges, ExplainsFrom, ExplainsHistories, unread}
@@ -16,6 +16,10 @@ unread_from : (text before : List ℕ) (n : ℕ) (ps : List (List ℕ)) (fault :
 unread_from text before n ps (At m kind cause) t tells is =
     unread before n ps m kind tells.0 tells.1 is
 unread_from text before n ps Memory t tells is = absurd is
+
+-- a history that was read, and the text after it
+abbrev pub one_read : RecordingModel → ℕ → List ℕ → OneRead
+one_read r n rest = record { recorded = r; number = n; rest = lines_of_text rest }
 
 -- a history that has a fault ends them
 pub stops : {E : Type 0} (text before rest : List ℕ) (n : ℕ) (fault : TextFault) (r : Result Explanation E)

@@ -418,11 +418,8 @@ later_read text n sought high room =
     ] in
     (l.heading, wrong.0, wrong.1, heading_is text n f l.heading l.at has room)
 
-ok_err : (t : TraceModel) (f : TraceFault) → Ok t ≡ Err f → ⊥
-ok_err t f e = cc
-
-head_ok_err : (h : HeadingModel) (f : HeadFault) → Ok h ≡ Err f → ⊥
-head_ok_err h f e = cc
+ok_err : {A E : Type 0} (x : A) (f : E) → Ok x ≡ Err f → ⊥
+ok_err x f e = cc
 
 -- if the lines before it declare nothing
 pub undeclared : (text : List ℕ) (n : ℕ) → IsInHeading text n → 3 < n → Heads (up_to n text) None
@@ -438,4 +435,4 @@ pub declared_fits : (text : List ℕ) (n : ℕ) (h k : HeadingModel) → IsInHea
 declared_fits text n h k sought high opens fits = lt_of_not-le (λ room.
     (let l = later_read text n sought high room in
     let same : l.0 ≡ h = opens_one (up_to n text) h _ room opens l.3 in
-    head_ok_err k l.1 (sym fits ∙ ap (λ (g : HeadingModel). head_step g (line_at n text)) (sym same) ∙ l.2)))
+    ok_err k l.1 (sym fits ∙ ap (λ (g : HeadingModel). head_step g (line_at n text)) (sym same) ∙ l.2)))

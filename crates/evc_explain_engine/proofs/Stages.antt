@@ -1,9 +1,8 @@
 -- What stage of a trace its lines lead to, by how many they are.
 use Rattle.std.proofs.Common.{◌≡◌, ◌⊎◌, inl, inr, ℕ, ◌+◌, ◌<◌, ◌≤◌, List, [], ◌∷◌, ◌++◌, length}
 use Rattle.std.proofs.Common.{cond, true, false, ◌&&◌, nat_lt}
-use Rattle.std.proofs.Common.{Ok, refl, sym, ap, subst, ◌∙◌, arith, codes, reverse}
+use Rattle.std.proofs.Common.{Ok, refl, sym, ap, subst, ◌∙◌, arith, codes}
 use Rattle.std.specs.Prelude.{bytes_eq}
-use Rattle.ec_core.specs.Acceptance.{answer_of}
 use Rattle.ec_text.specs.Words.{words_of}
 use Rattle.ec_heading.specs.declared.version.Version.{Version}
 use Rattle.ec_heading.specs.Versions.{greatest_limit}
@@ -14,11 +13,10 @@ use Rattle.ec_heading.specs.HeadingInvariant.{HasHeaderTree}
 use Rattle.ec_heading.proofs.shared.LeadLines.{named_outlined, declared_outlined}
 use Rattle.ec_heading.proofs.shared.Phrases.{same_word}
 use Rattle.ec_trace.specs.Stages.{Stage, Opening, Limiting, Declaring, Running, Ended}
-use Rattle.ec_trace.specs.Entries.{entry_of}
 use Rattle.ec_trace.specs.FirstFault.{Leads}
 use Rattle.ec_trace.specs.TraceModel.{TraceModel}
 use Rattle.ec_trace.specs.Step.{step, limit_of, after_declaration, entry_step, map_running}
-use Rattle.ec_trace.proofs.ReadRuns.{ran_back, entered_back, answered_back}
+use Rattle.ec_trace.proofs.ReadRuns.{ran_back}
 use Rattle.ec_trace.proofs.shared.ReadTraces.{limit_back, limited_back, declared_back, first_back}
 use Rattle.ec_trace.proofs.LinesToTrees.{entry_heading}
 

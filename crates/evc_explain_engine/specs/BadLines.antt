@@ -58,9 +58,6 @@ IsSite text n (sites.Declaration h fault) = Opens (up_to n text) h.now
 IsSite text n (sites.Entry h) = (follows_end n text ≡ false)
     × (t : TraceModel) × (trace_before n text ≡ Some t) × (h.now ≡ t.heading)
 IsSite text n sites.Behind = follows_end n text ≡ true
-IsSite text n (sites.Heading fault) = ⊥
-IsSite text n sites.Script = ⊥
-IsSite text n sites.Calls = ⊥
 IsSite text n sites.Unknown = TRACE_MAX < length (up_to n text)
 
 -- what is found of a bad line: the first cause that holds of the line at its site

@@ -10,8 +10,7 @@ use Rattle.ec_explain.specs.declared.finding.Finding.{Finding}
 use Rattle.ec_explain.specs.Findings.{finding_text, finding_of_text}
 use Rattle.ec_explain.specs.Kinds.{script_finding}
 use Rattle.ec_explain.specs.declared.cause.Cause.TheVariants as causes
-use Rattle.ec_script.specs.Outcome.{shown_plan}
-use Rattle.ec_script.specs.Outcome.{parse_result as script_outcome}
+use Rattle.ec_script.specs.Outcome.{shown_plan, parse_result as script_outcome}
 use Rattle.ec_script.specs.declared.plan.Plan.{Plan}
 use Rattle.ec_heading.specs.Spelling.{NameTable}
 use Rattle.ec_runner.specs.declared.report.Report.{Report}

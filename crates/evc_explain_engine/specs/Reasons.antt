@@ -1,8 +1,7 @@
 -- What is known of the entry of a faulty line, by the history before it: who has the right that its
 -- worker lacks, and what the round of a wrong reply has found.
 use Rattle.std.specs.Prelude.{ℕ, ◌-◌, ◌==◌, nat_lt, List, [], ◌∷◌, ◌++◌, length, reverse, codes}
-use Rattle.std.specs.Prelude.{decimal}
-use Rattle.std.specs.Prelude.{Bool, true, false, Option, Some, None, Result, Ok, Err}
+use Rattle.std.specs.Prelude.{decimal, Bool, true, false, Option, Some, None, Result, Ok, Err}
 use Rattle.std.specs.Prelude.{if◌then◌else◌}
 use Rattle.std.specs.Option.{option_map_or}
 use Rattle.std.specs.List.{flat_map}
@@ -88,51 +87,33 @@ signaller_word names (Some w) = target_name names (Worker w)
 abbrev pub line_of : Round → ℕ → ℕ
 line_of r position = r.number - (r.entries - position)
 
-unfoldable pub component_words : Round → Look → List ℕ
-component_words r l =
-    codes "Component " ++ decimal l.component ++ codes " of " ++ target_name r.names (Event r.event)
-
-unfoldable pub signalled_words : Round → Look → List ℕ
-signalled_words r l =
-    codes ", which " ++ signaller_word r.names l.signaller ++ codes " signalled, was "
-    ++ decimal l.number
-
-unfoldable pub place_words : Round → Look → List ℕ
-place_words r l = codes " on line " ++ decimal (line_of r l.position) ++ codes ".\n"
-
 -- a component, who signalled it, what it was, and where it was read
 unfoldable pub look_text : Round → Look → List ℕ
-look_text r l = component_words r l ++ signalled_words r l ++ place_words r l
-
-unfoldable pub count_words : Round → Look → List ℕ
-count_words r l =
-    codes "The count of " ++ target_name r.names (Event r.event) ++ codes " was " ++ decimal l.total
-
-unfoldable pub begun_words : Round → Look → List ℕ
-begun_words r l =
-    codes " when the round began, on line " ++ decimal (line_of r l.position) ++ codes ", and is "
-    ++ decimal r.total
+look_text r l =
+    (codes "Component " ++ decimal l.component ++ codes " of ") ++ target_name r.names (Event r.event)
+    ++ codes ", which " ++ signaller_word r.names l.signaller
+    ++ (codes " signalled, was " ++ decimal l.number ++ codes " on line ")
+    ++ (decimal (line_of r l.position) ++ codes ".\n")
 
 -- the count at both ends of a round that began with this look
 unfoldable pub ends_text : Round → Look → List ℕ
-ends_text r l = count_words r l ++ begun_words r l ++ codes " now.\n"
+ends_text r l =
+    codes "The count of " ++ target_name r.names (Event r.event)
+    ++ (codes " was " ++ decimal l.total ++ codes " when the round began, on line ")
+    ++ (decimal (line_of r l.position) ++ codes ", and is ")
+    ++ (decimal r.total ++ codes " now.\n")
 
 -- the count at both ends of a round, if they are two
 abbrev pub ends_of : Round → List Look → List ℕ
 ends_of r [] = []
 ends_of r (l ∷ ls) = if length ls == 0 then [] else ends_text r l
 
-unfoldable pub yet_text : Round → List ℕ
-yet_text r = codes "The reply is pending until all " ++ decimal r.width
-    ++ codes " components are read.\n"
-
-abbrev pub short_text : Reply → List ℕ
-short_text right = if is_pending right then codes "The sum is below the threshold of the await.\n"
-    else []
-
--- why the right reply is pending, if it is
+-- why the right reply is pending, if it is: components are yet to be read, or the sum falls short
 abbrev pub rest_text : Round → List ℕ
-rest_text r = if nat_lt (length r.looks) r.width then yet_text r else short_text r.right
+rest_text r =
+    if nat_lt (length r.looks) r.width
+    then codes "The reply is pending until all " ++ decimal r.width ++ codes " components are read.\n"
+    else (if is_pending r.right then codes "The sum is below the threshold of the await.\n" else [])
 
 unfoldable pub round_text : Round → List ℕ
 round_text r = flat_map (look_text r) r.looks ++ ends_of r r.looks ++ rest_text r

@@ -1,7 +1,6 @@
 -- The states of the workers at the end of a schedule: who has not ended, and what it waits for.
-use Rattle.std.specs.Prelude.{◌≡◌, ℕ, ◌+◌, ◌==◌, ◌&&◌, nat_lt, not, Bool, true, false, List, []}
-use Rattle.std.specs.Prelude.{◌∷◌, ◌++◌}
-use Rattle.std.specs.Prelude.{reverse, codes, decimal, Option, Some, None, if◌then◌else◌}
+use Rattle.std.specs.Prelude.{ℕ, ◌+◌, ◌==◌, ◌&&◌, nat_lt, not, Bool, true, false, List, []}
+use Rattle.std.specs.Prelude.{◌∷◌, ◌++◌, reverse, codes, decimal, Option, Some, None, if◌then◌else◌}
 use Rattle.std.specs.Option.{option_and_then}
 use Rattle.std.specs.List.{list_any}
 use Rattle.ec_count.specs.Tables.{Tables}
@@ -62,25 +61,16 @@ ends_from t past schedule w (o ∷ os) =
 
 -- IN WORDS
 
-unfoldable pub waits_words : NameTable → ℕ → PendingAwait → List ℕ
-waits_words names w a =
-    target_name names (Worker w) ++ codes " waits for " ++ target_name names (Event a.event)
-    ++ codes " to reach " ++ decimal a.threshold
-
-unfoldable pub count_words : NameTable → PendingAwait → ℕ → List ℕ
-count_words names a n =
-    codes "; " ++ target_name names (Event a.event) ++ codes " is " ++ decimal n ++ codes ".\n"
-
-unfoldable pub reached_words : NameTable → ℕ → PendingAwait → List ℕ
-reached_words names w a =
-    target_name names (Worker w) ++ codes " has not read yet that "
-    ++ target_name names (Event a.event)
-    ++ codes " has reached " ++ decimal a.threshold
-
 -- the state of worker w
 unfoldable pub end_text : NameTable → ℕ → End → List ℕ
-end_text names w (ends.Waits a n) = waits_words names w a ++ count_words names a n
-end_text names w (ends.Reached a) = reached_words names w a ++ codes ".\n"
+end_text names w (ends.Waits a n) =
+    target_name names (Worker w) ++ codes " waits for " ++ target_name names (Event a.event)
+    ++ (codes " to reach " ++ decimal a.threshold ++ codes "; ")
+    ++ target_name names (Event a.event) ++ (codes " is " ++ decimal n ++ codes ".\n")
+end_text names w (ends.Reached a) =
+    target_name names (Worker w) ++ codes " has not read yet that "
+    ++ target_name names (Event a.event)
+    ++ (codes " has reached " ++ decimal a.threshold ++ codes ".\n")
 end_text names w ends.Still =
     target_name names (Worker w) ++ codes " never moves: the schedule has no turn of it.\n"
 end_text names w ends.Late =
@@ -129,5 +119,5 @@ run_ends_text names run schedule outcomes =
 
 unfoldable pub turn_text : NameTable → ℕ → ℕ → List ℕ
 turn_text names place w =
-    codes "At place " ++ decimal place ++ codes " of the schedule, counted from 0, it names "
+    (codes "At place " ++ decimal place ++ codes " of the schedule, counted from 0, it names ")
     ++ target_name names (Worker w) ++ codes ".\n"

@@ -2,13 +2,9 @@
 ghost use Rattle.std.specs.Prelude.{◌≡◌, ◌≤◌, ◌<◌, IfOk, length};
 ghost use Rattle.std.specs.List.{All};
 ghost use Rattle.ec_trace.specs.declared.read.TheConstants.{TRACE_MAX};
-ghost use Rattle.ec_explain.specs.Findings.{finding_text, finding_of_text};
 ghost use Rattle.ec_script.specs.Confined.{IsPlan};
 ghost use Rattle.ec_script.specs.Outcome.{shown_plan};
 ghost use Rattle.evc_engine.specs.Checks.{RefusedFor};
-ghost use Rattle.evc_engine.specs.declared.status.Status.TheVariants.{Refused};
-ghost use Rattle.evc_explain_engine.specs.WorkerEnds.{turn_text};
-ghost use Rattle.evc_explain_engine.specs.TextAndStatus.{HasTextAndStatus};
 ghost use Rattle.evc_explain_engine.specs.Explanations.{IsExplanation, ExplainsCalls, ExplainsFault, ExplainsPlan, ExplainsScript};
 ghost use Rattle.evc_explain_engine.specs.Explanations.{IsUnplayed, ExplainsPlayed, ExplainsTrace};
 
@@ -20,7 +16,6 @@ use crate::good::{good_bytes, script_bytes};
 use crate::histories::explain_histories;
 use crate::reasons::{read_text, reason_of};
 use crate::worker_ends::{run_ends_text, turn_bytes};
-use ec_count::WorkerId;
 use ec_explain::{Cause, finding_of_text, script_finding};
 use ec_heading::Heading;
 use ec_runner::{Report, SimFault, simulate};
@@ -81,27 +76,8 @@ fn explain_played(
     })
 }
 
-/// Returns the explanation of a script whose schedule has a turn of a worker that has ended.
-fn explain_bad_turn(
-    alloc: Global,
-    text: &[u8],
-    heading: &Heading,
-    place: usize,
-    worker: WorkerId,
-) -> Result<Explanation, AllocError>
-    ensures { IfOk result (HasTextAndStatus (finding_text (finding_of_text Cause.TurnOfEnded)
-        (turn_text heading.now.words place worker) text.now) Refused) }
-{
-    let more = turn_bytes(alloc, heading, place, worker)?;
-    explain_finding(
-        alloc,
-        &finding_of_text(Cause::TurnOfEnded),
-        more.as_slice(),
-        text,
-    )
-}
-
-/// Returns the explanation of a script whose schedule could not be simulated.
+/// Returns the explanation of a script whose schedule could not be simulated: it has a turn of a
+/// worker that has ended.
 fn explain_unplayed(
     alloc: Global,
     text: &[u8],
@@ -111,7 +87,15 @@ fn explain_unplayed(
     ensures { IfOk result (IsUnplayed text.now heading.now.words fault) }
 {
     match fault {
-        SimFault::Ended { place, worker } => explain_bad_turn(alloc, text, heading, place, worker),
+        SimFault::Ended { place, worker } => {
+            let more = turn_bytes(alloc, heading, place, worker)?;
+            explain_finding(
+                alloc,
+                &finding_of_text(Cause::TurnOfEnded),
+                more.as_slice(),
+                text,
+            )
+        }
         SimFault::Memory => Err(AllocError),
     }
 }

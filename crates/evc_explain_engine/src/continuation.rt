@@ -67,7 +67,8 @@ fn add_rounds(
 fn play_or_cut(alloc: Global, plan: &mut Plan, first: usize) -> Result<Option<Report>, AllocError>
     requires programs { length plan.old.programs.items ≡ plan.old.heading.setup.workers }
     requires schedule { All (λ w. w < plan.old.heading.setup.workers) plan.old.schedule.items }
-    ensures same { (plan.new.heading ≡ plan.old.heading) × (plan.new.programs ≡ plan.old.programs) }
+    ensures heading { plan.new.heading ≡ plan.old.heading }
+    ensures programs { plan.new.programs ≡ plan.old.programs }
     ensures report { IfOk result (λ found. IfSome found (λ r. (plan.new.schedule ≡ plan.old.schedule)
         × IsReport plan.old.heading.setup plan.old.programs.items plan.old.schedule.items r)) }
     ensures continues { (own : List ℕ) → length own ≡ first
@@ -126,15 +127,7 @@ fn are_over(ends: &[End]) -> bool
 fn is_over(end: &End) -> bool
     ensures { result ≡ is_over end.now }
 {
-    match end {
-        End::Over => true,
-        End::Waits(_, _)
-        | End::Reached(_)
-        | End::Still
-        | End::Late
-        | End::Refused(_)
-        | End::TooLarge => false,
-    }
+    matches!(end, End::Over)
 }
 
 /// Puts the final states of the workers.

@@ -1,5 +1,6 @@
 //! The explanation of a text.
-ghost use Rattle.std.specs.Prelude.{◌≡◌, IfOk, IsOk};
+ghost use Rattle.std.specs.Prelude.{◌≡◌, ◌++◌, IfOk, IsOk, decimal};
+ghost use Rattle.ec_text.specs.Puts.{Puts};
 ghost use Rattle.evc_engine.specs.declared.status.Status.TheVariants.{Refused};
 ghost use Rattle.ec_explain.specs.Findings.{finding_text};
 ghost use Rattle.evc_explain_engine.specs.TextAndStatus.{HasTextAndStatus};
@@ -8,6 +9,7 @@ use ec_explain::{Finding, put_finding};
 use ec_text::{Output, WriteFault};
 use evc_engine::Status;
 use std::alloc::{AllocError, Global};
+use std::io::Write;
 
 /// What is written on a text, and the status of the program.
 #[derive(Drop)]
@@ -24,6 +26,15 @@ pub(crate) fn whole(bytes: Vec<u8>, done: Result<(), WriteFault>) -> Result<Vec<
         Ok(()) => Ok(bytes),
         Err(_) => Err(AllocError),
     }
+}
+
+/// Puts a number between two texts.
+pub(crate) fn put_count<W: Write>(out: &mut Output<'_, W>, before: &[u8], count: u64, after: &[u8])
+    ensures { Puts out.old out.new (before.now ++ decimal count ++ after.now) }
+{
+    out.put(before);
+    out.put_number(count);
+    out.put(after);
 }
 
 /// Returns what is found wrong with a text, and what more is known of it, as bytes.

@@ -1,18 +1,18 @@
 //! What is known of the entry of a faulty line, by the history before it.
-ghost use Rattle.std.specs.Prelude.{◌≡◌, [], IfOk, IfErr, reverse};
+ghost use Rattle.std.specs.Prelude.{◌≡◌, ◌++◌, [], IfOk, IfErr, reverse};
 ghost use Rattle.std.specs.List.{flat_map};
 ghost use Rattle.std.specs.Option.{option_map_or};
 ghost use Rattle.ec_core.specs.Rounds.{component_count};
 ghost use Rattle.ec_explain.specs.Rounds.{total_of};
+ghost use Rattle.ec_explain.specs.TextLines.{text_before_line};
 ghost use Rattle.ec_text.specs.Puts.{Puts};
 ghost use Rattle.evc_explain_engine.specs.Explanations.{RefusedOr};
 ghost use Rattle.evc_engine.specs.Checks.{ReadsAs};
-ghost use Rattle.evc_explain_engine.specs.Reasons.{right_words, worker_after, names_text, may_words};
-ghost use Rattle.evc_explain_engine.specs.Reasons.{holders_text, ended_before, trace_before};
-ghost use Rattle.evc_explain_engine.specs.Reasons.{holders_at};
-ghost use Rattle.evc_explain_engine.specs.Reasons.{event_at};
-ghost use Rattle.evc_explain_engine.specs.Reasons.{round_at, is_reading, round_for, holders_before};
-ghost use Rattle.evc_explain_engine.specs.Reasons.{round_before, refused_reason, reason_text, round_model};
+ghost use Rattle.evc_explain_engine.specs.Reasons.{right_words, worker_after, names_text};
+ghost use Rattle.evc_explain_engine.specs.Reasons.{may_words, holders_text, trace_before};
+ghost use Rattle.evc_explain_engine.specs.Reasons.{holders_at, event_at, round_at, is_reading};
+ghost use Rattle.evc_explain_engine.specs.Reasons.{round_for, holders_before, round_before};
+ghost use Rattle.evc_explain_engine.specs.Reasons.{refused_reason, reason_text, round_model};
 
 use crate::explanation::whole;
 use crate::round::Round;
@@ -117,13 +117,18 @@ pub(crate) fn read_text(alloc: Global, text: &[u8]) -> Result<Traced, TraceFault
     read_trace(alloc, &mut rest)
 }
 
-/// Returns the lines before a line, and then `end`.
-fn ended_before(alloc: Global, number: u64, text: &[u8]) -> Result<Vec<u8>, AllocError>
-    ensures { IfOk result (λ bytes. bytes.items ≡ ended_before number text.now) }
+/// Returns the lines before a line, and then these bytes.
+pub(crate) fn lines_before(
+    alloc: Global,
+    number: u64,
+    text: &[u8],
+    end: &[u8],
+) -> Result<Vec<u8>, AllocError>
+    ensures { IfOk result (λ bytes. bytes.items ≡ text_before_line number text.now ++ end.now) }
 {
     let mut bytes = Vec::new(alloc);
     bytes.extend_from_slice(text_before_line(number, text))?;
-    bytes.extend_from_slice(b"end\n")?;
+    bytes.extend_from_slice(end)?;
     Ok(bytes)
 }
 
@@ -135,17 +140,11 @@ pub(crate) fn trace_before(
 ) -> Result<Option<Traced>, AllocError>
     ensures { IfOk result (λ read. read ≡ trace_before number text.now) }
 {
-    let ended = ended_before(alloc, number, text)?;
+    let ended = lines_before(alloc, number, text, b"end\n")?;
     match read_text(alloc, ended.as_slice()) {
         Ok(traced) => Ok(Some(traced)),
         Err(TraceFault::Memory | TraceFault::Read) => Err(AllocError),
-        Err(
-            TraceFault::BadLine(_)
-            | TraceFault::Refused(_, _)
-            | TraceFault::WrongReply(_, _)
-            | TraceFault::Unfinished
-            | TraceFault::TooLarge,
-        ) => Ok(None),
+        Err(_) => Ok(None),
     }
 }
 
@@ -171,13 +170,7 @@ fn event_at(traced: &Traced, asked: &Asked) -> EventId
             Some(call) => call.op().event(),
             None => Act::Go.event(),
         },
-        Act::Advance(_)
-        | Act::Read(_)
-        | Act::Await(_, _)
-        | Act::Ticket(_)
-        | Act::Put(_, _)
-        | Act::Get(_)
-        | Act::Hand(_, _) => asked.act.event(),
+        _ => asked.act.event(),
     }
 }
 
@@ -223,10 +216,7 @@ fn round_at<'a>(
 fn is_reading(act: &Act) -> bool
     ensures { result ≡ is_reading act.now }
 {
-    match *act {
-        Act::Read(_) | Act::Await(_, _) | Act::Go => true,
-        Act::Advance(_) | Act::Ticket(_) | Act::Put(_, _) | Act::Get(_) | Act::Hand(_, _) => false,
-    }
+    matches!(*act, Act::Read(_) | Act::Await(_, _) | Act::Go)
 }
 
 /// Returns the text on the round of an act after a trace; empty if the act reads no eventcount.
@@ -316,13 +306,7 @@ fn refused_reason(
 {
     match refusal {
         Refusal::NoRight | Refusal::AlreadySignals => holders_before(alloc, number, text),
-        Refusal::UnknownWorker
-        | Refusal::Busy
-        | Refusal::Idle
-        | Refusal::UnknownObject
-        | Refusal::ValueTooLarge
-        | Refusal::AtLimit
-        | Refusal::NotHandable => Ok(Vec::new(alloc)),
+        _ => Ok(Vec::new(alloc)),
     }
 }
 
@@ -337,10 +321,6 @@ pub(crate) fn reason_of(
     match *fault {
         TraceFault::Refused(number, refusal) => refused_reason(alloc, number, refusal, text),
         TraceFault::WrongReply(number, right) => round_before(alloc, number, right, text),
-        TraceFault::BadLine(_)
-        | TraceFault::Unfinished
-        | TraceFault::TooLarge
-        | TraceFault::Read
-        | TraceFault::Memory => Ok(Vec::new(alloc)),
+        _ => Ok(Vec::new(alloc)),
     }
 }

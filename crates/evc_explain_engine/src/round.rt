@@ -1,16 +1,12 @@
 //! What the round of a read or an await has found, up to its last act.
-ghost use Rattle.std.specs.Prelude.{◌≡◌, ◌++◌, IfOk, codes, decimal};
+ghost use Rattle.std.specs.Prelude.{◌≡◌, IfOk};
 ghost use Rattle.std.specs.List.{flat_map};
-ghost use Rattle.ec_count.specs.declared.target.Target.TheVariants.{Event};
-ghost use Rattle.ec_heading.specs.Spelling.{target_name};
 ghost use Rattle.ec_text.specs.Puts.{Puts};
-ghost use Rattle.evc_explain_engine.specs.Reasons.{round_model, line_of, signaller_word};
-ghost use Rattle.evc_explain_engine.specs.Reasons.{component_words};
-ghost use Rattle.evc_explain_engine.specs.Reasons.{signalled_words, place_words, look_text, count_words};
-ghost use Rattle.evc_explain_engine.specs.Reasons.{begun_words, ends_text, ends_of, yet_text, short_text};
-ghost use Rattle.evc_explain_engine.specs.Reasons.{rest_text, round_text};
+ghost use Rattle.evc_explain_engine.specs.Reasons.{ends_of, ends_text, line_of, look_text};
+ghost use Rattle.evc_explain_engine.specs.Reasons.{rest_text, round_model, round_text};
+ghost use Rattle.evc_explain_engine.specs.Reasons.{signaller_word};
 
-use crate::explanation::whole;
+use crate::explanation::{put_count, whole};
 use ec_core::Reply;
 use ec_count::{EventId, WorkerId};
 use ec_explain::Look;
@@ -55,46 +51,16 @@ impl<'a> Round<'a> {
         }
     }
 
-    /// Puts which component an entry read.
-    #[tactic(auto, unfolding(crate::specs::Reasons::component_words))]
-    fn put_component<W: Write>(&self, out: &mut Output<'_, W>, look: &Look)
-        ensures { Puts out.old out.new (component_words (round_model self.now) look.now) }
-    {
-        out.put(b"Component ");
-        out.put_number(look.component as u64);
-        out.put(b" of ");
-        out.put(self.spellings.event(self.event));
-    }
-
-    /// Puts who signalled it, and what it was.
-    #[tactic(auto, unfolding(crate::specs::Reasons::signalled_words))]
-    fn put_signalled<W: Write>(&self, out: &mut Output<'_, W>, look: &Look)
-        ensures { Puts out.old out.new (signalled_words (round_model self.now) look.now) }
-    {
-        out.put(b", which ");
-        self.put_signaller(out, look.signaller);
-        out.put(b" signalled, was ");
-        out.put_number(look.number);
-    }
-
-    /// Puts where it was read.
-    #[tactic(auto, unfolding(crate::specs::Reasons::place_words))]
-    fn put_place<W: Write>(&self, out: &mut Output<'_, W>, look: &Look)
-        ensures { Puts out.old out.new (place_words (round_model self.now) look.now) }
-    {
-        out.put(b" on line ");
-        out.put_number(self.line_of(look.position));
-        out.put(b".\n");
-    }
-
-    /// Puts what an entry found.
-    #[tactic(auto, unfolding(crate::specs::Reasons::look_text))]
+    /// Puts what an entry found: a component, who signalled it, what it was, and where it was read.
     fn put_look<W: Write>(&self, out: &mut Output<'_, W>, look: &Look)
         ensures { Puts out.old out.new (look_text (round_model self.now) look.now) }
     {
-        self.put_component(out, look);
-        self.put_signalled(out, look);
-        self.put_place(out, look);
+        put_count(out, b"Component ", look.component as u64, b" of ");
+        out.put(self.spellings.event(self.event));
+        out.put(b", which ");
+        self.put_signaller(out, look.signaller);
+        put_count(out, b" signalled, was ", look.number, b" on line ");
+        put_count(out, b"", self.line_of(look.position), b".\n");
     }
 
     /// Puts what each entry found.
@@ -106,36 +72,20 @@ impl<'a> Round<'a> {
         }
     }
 
-    /// Puts the count when the round began.
-    #[tactic(auto, unfolding(crate::specs::Reasons::count_words))]
-    fn put_count<W: Write>(&self, out: &mut Output<'_, W>, look: &Look)
-        ensures { Puts out.old out.new (count_words (round_model self.now) look.now) }
-    {
-        out.put(b"The count of ");
-        out.put(self.spellings.event(self.event));
-        out.put(b" was ");
-        out.put_number(look.total);
-    }
-
-    /// Puts where the round began, and the count at its end.
-    #[tactic(auto, unfolding(crate::specs::Reasons::begun_words))]
-    fn put_begun<W: Write>(&self, out: &mut Output<'_, W>, look: &Look)
-        ensures { Puts out.old out.new (begun_words (round_model self.now) look.now) }
-    {
-        out.put(b" when the round began, on line ");
-        out.put_number(self.line_of(look.position));
-        out.put(b", and is ");
-        out.put_number(self.total);
-    }
-
     /// Puts the count at both ends of the round, which began with this look.
-    #[tactic(auto, unfolding(crate::specs::Reasons::ends_text))]
     fn put_ends<W: Write>(&self, out: &mut Output<'_, W>, look: &Look)
         ensures { Puts out.old out.new (ends_text (round_model self.now) look.now) }
     {
-        self.put_count(out, look);
-        self.put_begun(out, look);
-        out.put(b" now.\n");
+        out.put(b"The count of ");
+        out.put(self.spellings.event(self.event));
+        put_count(
+            out,
+            b" was ",
+            look.total,
+            b" when the round began, on line ",
+        );
+        put_count(out, b"", self.line_of(look.position), b", and is ");
+        put_count(out, b"", self.total, b" now.\n");
     }
 
     /// Puts the count at both ends of the round, if they are two.
@@ -149,34 +99,21 @@ impl<'a> Round<'a> {
         }
     }
 
-    /// Puts that components are yet to be read.
-    #[tactic(auto, unfolding(crate::specs::Reasons::yet_text))]
-    fn put_yet<W: Write>(&self, out: &mut Output<'_, W>)
-        ensures { Puts out.old out.new (yet_text (round_model self.now)) }
-    {
-        out.put(b"The reply is pending until all ");
-        out.put_number(self.width as u64);
-        out.put(b" components are read.\n");
-    }
-
-    /// Puts that the sum falls short, if the right reply is pending.
-    fn put_short<W: Write>(&self, out: &mut Output<'_, W>)
-        ensures { Puts out.old out.new (short_text (round_model self.now).right) }
-    {
-        match self.right {
-            Reply::Pending => out.put(b"The sum is below the threshold of the await.\n"),
-            Reply::Done | Reply::Number(_) => {}
-        }
-    }
-
-    /// Puts why the right reply is pending, if it is.
+    /// Puts why the right reply is pending, if it is: components are yet to be read, or the sum
+    /// falls short.
     fn put_rest<W: Write>(&self, out: &mut Output<'_, W>)
         ensures { Puts out.old out.new (rest_text (round_model self.now)) }
     {
         if self.looks.len() < self.width {
-            self.put_yet(out);
-        } else {
-            self.put_short(out);
+            let width = self.width as u64;
+            put_count(
+                out,
+                b"The reply is pending until all ",
+                width,
+                b" components are read.\n",
+            );
+        } else if self.right.is_pending() {
+            out.put(b"The sum is below the threshold of the await.\n");
         }
     }
 

@@ -1,19 +1,14 @@
 //! The states of the workers at the end of a schedule.
 ghost use Rattle.std.specs.Prelude.{◌≡◌, ◌++◌, ◌≤◌, ◌+◌, IfOk, OnOk, length, reverse};
 ghost use Rattle.std.specs.List.{list_any};
-ghost use Rattle.ec_count.specs.declared.target.Target.TheVariants.{Worker};
-ghost use Rattle.ec_heading.specs.Spelling.{target_name};
 ghost use Rattle.ec_text.specs.Puts.{Puts};
-ghost use Rattle.evc_explain_engine.specs.WorkerEnds.{pending_await, await_of_act, awaiting_end};
-ghost use Rattle.evc_explain_engine.specs.WorkerEnds.{running_end};
-ghost use Rattle.evc_explain_engine.specs.WorkerEnds.{has_turn};
-ghost use Rattle.evc_explain_engine.specs.WorkerEnds.{end_of, ends_from, waits_words, count_words};
-ghost use Rattle.evc_explain_engine.specs.WorkerEnds.{reached_words, end_text, end_lines, is_waiting, can_continue};
-ghost use Rattle.evc_explain_engine.specs.WorkerEnds.{is_deadlock, deadlock_text, ends_text};
-ghost use Rattle.evc_explain_engine.specs.WorkerEnds.{run_ends_text};
-ghost use Rattle.evc_explain_engine.specs.WorkerEnds.{turn_text};
+ghost use Rattle.evc_explain_engine.specs.WorkerEnds.{await_of_act, awaiting_end, can_continue};
+ghost use Rattle.evc_explain_engine.specs.WorkerEnds.{deadlock_text, end_lines, end_of, end_text};
+ghost use Rattle.evc_explain_engine.specs.WorkerEnds.{ends_from, ends_text, has_turn, is_deadlock};
+ghost use Rattle.evc_explain_engine.specs.WorkerEnds.{is_waiting, pending_await, run_ends_text};
+ghost use Rattle.evc_explain_engine.specs.WorkerEnds.{running_end, turn_text};
 
-use crate::explanation::whole;
+use crate::explanation::{put_count, whole};
 use ec_core::{Act, Refusal, Run};
 use ec_count::{EventId, WorkerId};
 use ec_heading::Heading;
@@ -55,13 +50,7 @@ fn await_of_act(op: Act) -> Option<PendingAwait>
 {
     match op {
         Act::Await(event, threshold) => Some(PendingAwait { event, threshold }),
-        Act::Advance(_)
-        | Act::Read(_)
-        | Act::Go
-        | Act::Ticket(_)
-        | Act::Put(_, _)
-        | Act::Get(_)
-        | Act::Hand(_, _) => None,
+        _ => None,
     }
 }
 
@@ -162,70 +151,6 @@ pub(crate) fn ends_of(
     Ok(ends)
 }
 
-/// Puts what a worker waits for.
-#[tactic(auto, unfolding(crate::specs::WorkerEnds::waits_words))]
-fn put_waits<W: Write>(
-    out: &mut Output<'_, W>,
-    spellings: &Spellings<'_>,
-    worker: WorkerId,
-    awaited: &PendingAwait,
-)
-    ensures { Puts out.old out.new (waits_words spellings.now worker awaited.now) }
-{
-    out.put(spellings.worker(worker));
-    out.put(b" waits for ");
-    out.put(spellings.event(awaited.event));
-    out.put(b" to reach ");
-    out.put_number(awaited.threshold);
-}
-
-/// Puts what the count is.
-#[tactic(auto, unfolding(crate::specs::WorkerEnds::count_words))]
-fn put_count<W: Write>(
-    out: &mut Output<'_, W>,
-    spellings: &Spellings<'_>,
-    awaited: &PendingAwait,
-    count: u64,
-)
-    ensures { Puts out.old out.new (count_words spellings.now awaited.now count) }
-{
-    out.put(b"; ");
-    out.put(spellings.event(awaited.event));
-    out.put(b" is ");
-    out.put_number(count);
-    out.put(b".\n");
-}
-
-/// Puts what a worker has not read.
-#[tactic(auto, unfolding(crate::specs::WorkerEnds::reached_words))]
-fn put_reached<W: Write>(
-    out: &mut Output<'_, W>,
-    spellings: &Spellings<'_>,
-    worker: WorkerId,
-    awaited: &PendingAwait,
-)
-    ensures { Puts out.old out.new (reached_words spellings.now worker awaited.now) }
-{
-    out.put(spellings.worker(worker));
-    out.put(b" has not read yet that ");
-    out.put(spellings.event(awaited.event));
-    out.put(b" has reached ");
-    out.put_number(awaited.threshold);
-}
-
-/// Puts the name of a worker, and words after it.
-fn put_worker_words<W: Write>(
-    out: &mut Output<'_, W>,
-    spellings: &Spellings<'_>,
-    worker: WorkerId,
-    words: &[u8],
-)
-    ensures { Puts out.old out.new (target_name spellings.now (Worker worker) ++ words.now) }
-{
-    out.put(spellings.worker(worker));
-    out.put(words);
-}
-
 /// Puts the state of a worker.
 #[tactic(auto, unfolding(crate::specs::WorkerEnds::end_text))]
 fn put_end<W: Write>(
@@ -236,39 +161,41 @@ fn put_end<W: Write>(
 )
     ensures { Puts out.old out.new (end_text spellings.now worker end.now) }
 {
+    let name = spellings.worker(worker);
     match end {
         End::Waits(awaited, count) => {
-            put_waits(out, spellings, worker, awaited);
-            put_count(out, spellings, awaited, *count);
+            let event = spellings.event(awaited.event);
+            out.put(name);
+            out.put(b" waits for ");
+            out.put(event);
+            put_count(out, b" to reach ", awaited.threshold, b"; ");
+            out.put(event);
+            put_count(out, b" is ", *count, b".\n");
         }
         End::Reached(awaited) => {
-            put_reached(out, spellings, worker, awaited);
-            out.put(b".\n");
+            out.put(name);
+            out.put(b" has not read yet that ");
+            out.put(spellings.event(awaited.event));
+            put_count(out, b" has reached ", awaited.threshold, b".\n");
         }
-        End::Still => put_worker_words(
-            out,
-            spellings,
-            worker,
-            b" never moves: the schedule has no turn of it.\n",
-        ),
-        End::Late => put_worker_words(
-            out,
-            spellings,
-            worker,
-            b" has not ended: the schedule ends too early for it.\n",
-        ),
+        End::Still => {
+            out.put(name);
+            out.put(b" never moves: the schedule has no turn of it.\n");
+        }
+        End::Late => {
+            out.put(name);
+            out.put(b" has not ended: the schedule ends too early for it.\n");
+        }
         End::Refused(refusal) => {
-            out.put(spellings.worker(worker));
+            out.put(name);
             out.put(b" has ended: its last act is refused by ");
             out.put(refusal.name().as_bytes());
             out.put(b".\n");
         }
-        End::TooLarge => put_worker_words(
-            out,
-            spellings,
-            worker,
-            b" has ended: its next value is too large.\n",
-        ),
+        End::TooLarge => {
+            out.put(name);
+            out.put(b" has ended: its next value is too large.\n");
+        }
         End::Over => {}
     }
 }
@@ -297,21 +224,14 @@ fn put_end_lines<W: Write>(
 fn is_waiting(end: &End) -> bool
     ensures { result ≡ is_waiting end.now }
 {
-    match end {
-        End::Waits(_, _) => true,
-        End::Over | End::Reached(_) | End::Still | End::Late | End::Refused(_) | End::TooLarge =>
-            false,
-    }
+    matches!(end, End::Waits(_, _))
 }
 
 /// Returns whether a worker can go on.
 fn can_continue(end: &End) -> bool
     ensures { result ≡ can_continue end.now }
 {
-    match end {
-        End::Reached(_) | End::Still | End::Late => true,
-        End::Over | End::Waits(_, _) | End::Refused(_) | End::TooLarge => false,
-    }
+    matches!(end, End::Reached(_) | End::Still | End::Late)
 }
 
 /// Returns whether some worker waits.
@@ -383,10 +303,14 @@ fn put_turn<W: Write>(out: &mut Output<'_, W>, heading: &Heading, place: usize, 
     ensures { Puts out.old out.new (turn_text heading.now.words place worker) }
 {
     let spellings = Spellings::new(heading.words());
-    out.put(b"At place ");
-    out.put_number(place as u64);
-    out.put(b" of the schedule, counted from 0, it names ");
-    put_worker_words(out, &spellings, worker, b".\n");
+    put_count(
+        out,
+        b"At place ",
+        place as u64,
+        b" of the schedule, counted from 0, it names ",
+    );
+    out.put(spellings.worker(worker));
+    out.put(b".\n");
 }
 
 /// Returns which turn is of a worker that has ended, as bytes.

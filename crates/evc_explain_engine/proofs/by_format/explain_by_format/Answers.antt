@@ -1,4 +1,4 @@
-use Rattle.std.proofs.Common.{IfOk, Result, subst, sym, ◌∙◌}
+use Rattle.std.proofs.Common.{IfOk, subst, sym, ◌∙◌}
 use Rattle.evc_explain_engine.specs.Explanations.{ExplainsBy}
 use Rattle.evc_explain_engine.specs.declared.form.Form.{Form}
 use Rattle.evc_explain_engine.proofs.by_format.explain_by_format.Goals as goal

@@ -2,11 +2,10 @@ use Rattle.std.proofs.Common.{◌≡◌, ◌∙◌, ◌*◌, Option, IfSome, ref
 use Rattle.std.proofs.Math.Nat.{min-le_left}
 use Rattle.std.specs.List.{list_any}
 use Rattle.evc_explain_engine.specs.WorkerEnds.{can_continue}
-use Rattle.ec_script.specs.declared.plan.Plan.{Plan}
 use Rattle.ec_runner.specs.declared.report.Report.{Report}
 use Rattle.ec_runner.specs.Reported.{IsReport}
 use Rattle.evc_explain_engine.proofs.Continuing.{continues_same}
-use Rattle.evc_explain_engine.proofs.Ending.{all_declared, comes_to, few_ends, goes_further}
+use Rattle.evc_explain_engine.proofs.Ending.{all_declared, comes_to, few_ends, given, goes_further}
 use Rattle.evc_explain_engine.proofs.Ending.{still_continues}
 use Rattle.evc_explain_engine.proofs.continuation.final_ends.Goals.{in-Some+in_ok-ends+else-not-any_can_continue+else-len-gt-TURNS_MAX+in_ok-add_rounds, in_default}
 use Rattle.evc_explain_engine.proofs.continuation.final_ends.Goals as goal
@@ -31,27 +30,14 @@ play_or_cut-requires-clause-schedule c =
     c.args.plan.now.schedule.items c.loop.plan.schedule.items
     (rw i.heading refl) i.continues c.requires.schedule
 
-pub returns-in_err-report-clause-heading : goal.returns-in_err-report-clause-heading
-returns-in_err-report-clause-heading c =
-    c.play_or_cut.ensures.same.0 ∙ c.loop.invariant.heading
-
-pub returns-in_err-ends-clause-heading : goal.returns-in_err-ends-clause-heading
-returns-in_err-ends-clause-heading c = c.play_or_cut.ensures.same.0 ∙ c.loop.invariant.heading
-
-pub returns-then-not-any_can_continue-clause-heading : goal.returns-then-not-any_can_continue-clause-heading
-returns-then-not-any_can_continue-clause-heading c =
-    c.play_or_cut.ensures.same.0 ∙ c.loop.invariant.heading
-
 pub returns-then-not-any_can_continue-clause-ends : goal.returns-then-not-any_can_continue-clause-ends
 returns-then-not-any_can_continue-clause-ends c =
     let i = c.loop.invariant in
     let q = c.loop.plan in
     let turns = c.play_or_cut.new.plan.schedule in
-    let explanation : (turns ≡ q.schedule)
-    × IsReport q.heading.setup q.programs.items q.schedule.items c.in-Some.report =
-    subst (λ (f : Option Report). IfSome f (λ r. (turns ≡ q.schedule)
-    × IsReport q.heading.setup q.programs.items q.schedule.items r))
-    c.in-Some.is c.in_ok-report.ensures.report in
+    let explanation = given c.in_ok-report.field-0 c.in-Some.report c.in-Some.is
+    (λ r. (turns ≡ q.schedule) × IsReport q.heading.setup q.programs.items q.schedule.items r)
+    c.in_ok-report.ensures.report in
     comes_to c.args.plan.now q turns.items c.as_slice.result.now c.in-Some.report
     c.as_slice-outcomes.result.now c.in_ok-ends.ends.items i.heading i.programs i.continues
     (rw explanation.0 refl) explanation.1 c.as_slice.ensures.value c.as_slice-outcomes.ensures.value
@@ -64,23 +50,12 @@ pub returns-then-not-any_can_continue-clause-few : goal.returns-then-not-any_can
 returns-then-not-any_can_continue-clause-few c =
     let q = c.loop.plan in
     let turns = c.play_or_cut.new.plan.schedule in
-    let explanation : (turns ≡ q.schedule)
-    × IsReport q.heading.setup q.programs.items q.schedule.items c.in-Some.report =
-    subst (λ (f : Option Report). IfSome f (λ r. (turns ≡ q.schedule)
-    × IsReport q.heading.setup q.programs.items q.schedule.items r))
-    c.in-Some.is c.in_ok-report.ensures.report in
+    let explanation = given c.in_ok-report.field-0 c.in-Some.report c.in-Some.is
+    (λ r. (turns ≡ q.schedule) × IsReport q.heading.setup q.programs.items q.schedule.items r)
+    c.in_ok-report.ensures.report in
     few_ends c.args.plan.now q c.in-Some.report c.as_slice-outcomes.result.now
     c.in_ok-ends.ends.items c.loop.invariant.heading c.requires.few explanation.1
     c.as_slice-outcomes.ensures.value c.in_ok-ends.ensures.each
-
-pub returns-then-len-gt-TURNS_MAX-clause-heading :
-    goal.returns-then-len-gt-TURNS_MAX-clause-heading
-returns-then-len-gt-TURNS_MAX-clause-heading c =
-    c.play_or_cut.ensures.same.0 ∙ c.loop.invariant.heading
-
-pub returns-in_err-add_rounds-clause-heading : goal.returns-in_err-add_rounds-clause-heading
-returns-in_err-add_rounds-clause-heading c =
-    c.play_or_cut.ensures.same.0 ∙ c.loop.invariant.heading
 
 pub overflow_mul-rounds : goal.overflow_mul-rounds
 overflow_mul-rounds c = omega (arith, c.loop.invariant.few)
@@ -99,8 +74,8 @@ loop-preserved c =
           × IsReport q.heading.setup q.programs.items q.schedule.items r))
           w.in-Some.is c.in_ok-report.ensures.report in
           rw (w.plan-is, w.rounds-is) record {
-            heading = c.play_or_cut.ensures.same.0 ∙ i.heading;
-            programs = c.play_or_cut.ensures.same.1 ∙ i.programs;
+            heading = c.play_or_cut.ensures.heading ∙ i.heading;
+            programs = c.play_or_cut.ensures.programs ∙ i.programs;
             continues = goes_further p q turns.items w.add_rounds.new.schedule.items
                 w.in-Some.report w.as_slice-outcomes.result.now i.heading i.continues
                 (rw explanation.0 refl) explanation.1 w.as_slice-outcomes.ensures.value
@@ -110,13 +85,10 @@ loop-preserved c =
           }
       | in_default w ↦
           rw (w.plan-is, w.rounds-is) record {
-            heading = c.play_or_cut.ensures.same.0 ∙ i.heading;
-            programs = c.play_or_cut.ensures.same.1 ∙ i.programs;
+            heading = c.play_or_cut.ensures.heading ∙ i.heading;
+            programs = c.play_or_cut.ensures.programs ∙ i.programs;
             continues = still_continues p q turns.items c.len-first.result i.heading
                 (omega (arith, c.len-first.ensures, c.args.plan.now.schedule.ok)) i.continues c.play_or_cut.ensures.continues;
             few = i.few;
           }
     ]
-
-pub returns-clause-heading : goal.returns-clause-heading
-returns-clause-heading c = c.loop.invariant.heading

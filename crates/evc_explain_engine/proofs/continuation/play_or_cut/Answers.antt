@@ -1,4 +1,4 @@
-use Rattle.std.proofs.Common.{◌≤◌, ℕ, List, length, max, subst, sym, arith}
+use Rattle.std.proofs.Common.{◌≤◌, ℕ, List, length, subst, sym, arith}
 use Rattle.std.proofs.Math.Nat.{le-max_right}
 use Rattle.evc_explain_engine.specs.Continuation.{Continues}
 use Rattle.evc_explain_engine.proofs.Continuing.{continues_cut}

@@ -1,7 +1,7 @@
-use Rattle.std.proofs.Common.{◌∙◌, ℕ, List, [], sym, refl, arith, subst}
-use Rattle.calls_text.specs.Outcomes.{OneRead, lines_of_text}
+use Rattle.std.proofs.Common.{◌∙◌, ℕ, List, sym, refl, arith, subst}
+use Rattle.calls_text.specs.Outcomes.{lines_of_text}
 use Rattle.evc_explain_engine.specs.Histories.{Judges, ExplainsFrom, last, later, stopped}
-use Rattle.evc_explain_engine.proofs.HistoryLemmas.{stops, no_rest, judged_none}
+use Rattle.evc_explain_engine.proofs.HistoryLemmas.{stops, no_rest, judged_none, one_read}
 use Rattle.evc_explain_engine.proofs.histories.explain_histories.Goals as goal
 
 pub loop-read-init : goal.loop-read-init
@@ -21,11 +21,7 @@ returns-in-Err c =
 pub returns-in-Some : goal.returns-in-Some
 returns-in-Some c =
     let read = c.in-Ok.read in
-    let r : OneRead = record {
-      recorded = read.recording;
-      number = read.number;
-      rest = lines_of_text read.rest.now;
-    } in
+    let r = one_read read.recording read.number read.rest.now in
     c.loop-read.invariant.follows c.in-Some.explanation
     (stopped c.loop-read.lines.items c.loop-read.number (lines_of_text c.loop-read.rest.now) r
     c.in-Ok.ensures.tells
@@ -34,11 +30,7 @@ returns-in-Some c =
 pub returns-then-is_empty : goal.returns-then-is_empty
 returns-then-is_empty c =
     let read = c.in-Ok.read in
-    let r : OneRead = record {
-      recorded = read.recording;
-      number = read.number;
-      rest = lines_of_text read.rest.now;
-    } in
+    let r = one_read read.recording read.number read.rest.now in
     c.loop-read.invariant.follows _
     (last c.loop-read.lines.items c.loop-read.number (lines_of_text c.loop-read.rest.now) r
     c.in-Ok.ensures.tells
@@ -49,11 +41,7 @@ returns-then-is_empty c =
 pub loop-read-preserved : goal.loop-read-preserved
 loop-read-preserved c =
     let read = c.in-Ok.read in
-    let r : OneRead = record {
-      recorded = read.recording;
-      number = read.number;
-      rest = lines_of_text read.rest.now;
-    } in
+    let r = one_read read.recording read.number read.rest.now in
     record {
       few = omega (arith, c.in-Ok.ensures.numbers, c.loop-read.invariant.few);
       follows = λ t there.
