@@ -16,7 +16,7 @@ use Rattle.ec_heading.specs.declared.group.Group.{Group}
 use Rattle.ec_heading.specs.declared.group.Group.TheVariants as groups
 use Rattle.ec_walk.specs.declared.group_table.Span.{Span}
 use Rattle.ec_walk.specs.declared.group_table.GroupTable.{GroupTable}
-use Rattle.ec_walk.specs.Walks.{names, sees_every_call, act_on, is_on, is_wide_at, is_on_at, is_asked_at, passes_at, CoversFirst, Covers, CoversAct, CoversAt, IsTable, Dispatches, DispatchesWhere, DispatchesTo, DispatchesAmong, DispatchesOn, goes_to, IsDispatched, AreHanded, AreIndependent}
+use Rattle.ec_walk.specs.Walks.{names, sees_every_call, act_on, is_on, is_on_at, is_asked_at, passes_at, CoversFirst, Covers, CoversAct, CoversAt, IsTable, Dispatches, DispatchesWhere, DispatchesTo, DispatchesAmong, DispatchesOn, goes_to, IsDispatched, AreHanded, AreIndependent}
 
 -- THE TABLE
 
@@ -153,7 +153,7 @@ cell_at n = rw (le-ltb (64 + n) 32 (omega arith), le-ltb (64 + n) 64 (omega arit
 -- WHICH GROUPS ARE ASKED
 
 -- a group that an act names, and that is not wide
-pub asked_named : (gs : List Group) (op : Act) (i : ℕ) → passes_at gs (λ g. names g op) i ≡ true → is_wide_at gs i ≡ false → is_asked_at gs false op i ≡ true
+pub asked_named : (gs : List Group) (op : Act) (i : ℕ) → passes_at gs (λ g. names g op) i ≡ true → passes_at gs sees_every_call i ≡ false → is_asked_at gs false op i ≡ true
 asked_named gs op i = go (slice_get gs i)
   where
     go : (o : Option Group) → option_map_or (λ g. names g op) o false ≡ true → option_map_or sees_every_call o false ≡ false → option_map_or (λ g. not (sees_every_call g) && names g op) o false ≡ true
@@ -161,7 +161,7 @@ asked_named gs op i = go (slice_get gs i)
     go (Some g) on narrow = ap (λ b. not b && names g op) narrow ∙ on
 
 -- a wide group is only selected as such
-pub asked_once : (gs : List Group) (op : Act) (i : ℕ) → is_wide_at gs i ≡ true
+pub asked_once : (gs : List Group) (op : Act) (i : ℕ) → passes_at gs sees_every_call i ≡ true
     → is_asked_at gs false op i ≡ true → ⊥
 asked_once gs op i = go (slice_get gs i)
   where
@@ -183,7 +183,7 @@ asked_is_on gs op i = go (slice_get gs i)
     go None on = on
     go (Some g) on = by (sees_every_call g) (names g op) on
 
-pub wide_is_on : (gs : List Group) (op : Act) (i : ℕ) → is_wide_at gs i ≡ true
+pub wide_is_on : (gs : List Group) (op : Act) (i : ℕ) → passes_at gs sees_every_call i ≡ true
     → is_on_at gs op i ≡ true
 wide_is_on gs op i = go (slice_get gs i)
   where
@@ -326,7 +326,7 @@ module _ {A : Type 0} (represents : A → A → List Entry
 
   -- the one that is named
   pub hands_named : (gs : List Group) (named : Span) (old new : List A) → CoversAct gs op named
-      → named.end ≡ named.first + 1 → is_wide_at gs named.first ≡ false
+      → named.end ≡ named.first + 1 → passes_at gs sees_every_call named.first ≡ false
       → DispatchesTo represents named.first place op x old new
       → DispatchesAmong represents gs false named.first named.end place op x old new
   hands_named gs named old new covers one narrow =
@@ -336,7 +336,7 @@ module _ {A : Type 0} (represents : A → A → List Entry
 
   -- it is wide
   pub hands_wide : (gs : List Group) (named : Span) (old : List A) → named.end ≡ named.first + 1
-      → is_wide_at gs named.first ≡ true
+      → passes_at gs sees_every_call named.first ≡ true
       → DispatchesAmong represents gs false named.first named.end place op x old old
   hands_wide gs named old one wide =
       hands_nobody (λ i. (named.first ≤ i) × (i < named.end) × (is_asked_at gs false op i ≡ true)) old
@@ -344,7 +344,7 @@ module _ {A : Type 0} (represents : A → A → List Entry
       (let from : named.first ≤ i = q.0 in
       let before : i < named.end = q.1 in
       let same : i ≡ named.first = omega arith in
-      asked_once gs op i (ap (is_wide_at gs) same ∙ wide) q.2))
+      asked_once gs op i (ap (passes_at gs sees_every_call) same ∙ wide) q.2))
 
   -- those that are named, and then the wide ones
   pub hands_both : (gs : List Group) (named wide : Span) (old mid new : List A)

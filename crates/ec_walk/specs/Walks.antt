@@ -39,10 +39,6 @@ is_on g act = sees_every_call g || names g act
 abbrev pub passes_at : List Group → (Group → Bool) → ℕ → Bool
 passes_at gs test i = option_map_or test (slice_get gs i) false
 
--- whether it is wide
-abbrev pub is_wide_at : List Group → ℕ → Bool
-is_wide_at gs i = passes_at gs sees_every_call i
-
 -- whether a call that an act begins is on it
 abbrev pub is_on_at : List Group → Act → ℕ → Bool
 is_on_at gs act i = passes_at gs (λ g. is_on g act) i
@@ -50,7 +46,7 @@ is_on_at gs act i = passes_at gs (λ g. is_on g act) i
 -- whether it is selected: whether it is wide, if the flag is true; otherwise whether it is another
 -- of which the act names an object
 abbrev pub is_asked_at : List Group → Bool → Act → ℕ → Bool
-is_asked_at gs true act i = is_wide_at gs i
+is_asked_at gs true act i = passes_at gs sees_every_call i
 is_asked_at gs false act i = passes_at gs (λ g. not (sees_every_call g) && names g act) i
 
 -- THE TABLE
@@ -108,8 +104,7 @@ DispatchesWhere {A} represents IsPicked place op x old new = (length new ≡ len
 abbrev pub DispatchesTo : {A : Type 0} → (A → A → List Entry → Type 0) → ℕ → ℕ → Act → Entry
     → List A
     → List A → Type 0
-DispatchesTo represents number place op x old new =
-    DispatchesWhere represents (λ i. i ≡ number) place op x old new
+DispatchesTo represents number = DispatchesWhere represents (λ i. i ≡ number)
 
 -- exactly the audits of the selected groups from `first` on, before `end`, have processed it
 abbrev pub DispatchesAmong : {A : Type 0} → (A → A → List Entry → Type 0) → List Group → Bool → ℕ
@@ -131,18 +126,13 @@ abbrev pub goes_to : List Group → ℕ → Entry → List Entry → Bool
 goes_to gs i x past =
     not (is_intermediate x) && is_on_at gs (opening_act x.act (under_way x.worker past)) i
 
--- an audit has processed an entry after past
-abbrev pub DispatchesNext : {A : Type 0} → (A → A → List Entry → Type 0) → Entry → List Entry → A → A → Type 0
-DispatchesNext represents x past old new =
-    Dispatches represents (length past) (opening_act x.act (under_way x.worker past)) x old new
-
 -- an audit, which was start, is now after it was passed exactly the entries of past that are picked
 abbrev pub IsDispatched : {A : Type 0} → (A → A → List Entry → Type 0) → (Entry → List Entry → Bool)
     → A
     → A → List Entry → Type 0
 IsDispatched represents picks start now [] = now ≡ start
 IsDispatched {A} represents picks start now (x ∷ past) = (before : A) × IsDispatched represents picks start before past
-    × (((picks x past ≡ true) × DispatchesNext represents x past before now)
+    × (((picks x past ≡ true) × Dispatches represents (length past) (opening_act x.act (under_way x.worker past)) x before now)
     ⊎ ((picks x past ≡ false) × (now ≡ before)))
 
 -- each audit of a list was passed exactly the entries whose calls are on its own group, except the

@@ -4,7 +4,7 @@ ghost use Rattle.ec_core.specs.declared.act.Entry.{Entry};
 ghost use Rattle.ec_core.specs.Calls.{under_way, is_intermediate};
 ghost use Rattle.ec_core.specs.Following.{opening_act};
 ghost use Rattle.ec_heading.specs.declared.group.Group.{Group};
-ghost use Rattle.ec_walk.specs.Walks.{is_on, sees_every_call, is_wide_at, is_asked_at, Covers, CoversAct, DispatchesTo, DispatchesAmong, DispatchesOn, AreIndependent, AreHanded, IsTable};
+ghost use Rattle.ec_walk.specs.Walks.{is_on, sees_every_call, passes_at, is_asked_at, Covers, CoversAct, DispatchesTo, DispatchesAmong, DispatchesOn, AreIndependent, AreHanded, IsTable};
 
 use crate::group_table::{GroupTable, Span, names, sees_every_call};
 use ec_core::{Act, Audit, Entry, Reply, Run, walk};
@@ -61,7 +61,7 @@ fn is_intermediate(entry: &Entry) -> bool
 #[inline(always)]
 fn is_wide_at(groups: &[Group], among: Span, number: usize) -> bool
     requires { Covers groups.now sees_every_call among }
-    ensures { result ≡ is_wide_at groups.now number }
+    ensures { result ≡ passes_at groups.now sees_every_call number }
 {
     if number < among.first || among.end <= number {
         return false;
