@@ -1,5 +1,5 @@
 //! The deliveries of a run.
-ghost use Rattle.std.specs.Prelude.{◌≡◌, ◌<◌, false, List, [], length, replicate, reverse, IfOk, IfErr, IfSome, OnOk};
+ghost use Rattle.std.specs.Prelude.{◌≡◌, ◌<◌, false, List, [], length, reverse, IfOk, IfErr, IfSome, OnOk};
 ghost use Rattle.ec_core.specs.Audits.{IsAuditFault};
 ghost use Rattle.ec_core.specs.Ending.{EndsAt};
 ghost use Rattle.ec_core.specs.declared.act.Entry.{Entry};
@@ -36,14 +36,6 @@ fn note_put(shape: &BufferShape, entry: &Entry, writers: &mut [WorkerId; 256])
             writers[place] = entry.worker;
         }
     }
-}
-
-/// Returns the last writers before the first put: an arbitrary worker for each cell.
-fn no_writers() -> [WorkerId; 256]
-    ensures { result ≡ replicate 256 0 }
-{
-    let first = WorkerId::default();
-    [first; 256]
 }
 
 /// Adds the delivery of a get, if the entry is one, unless an allocation has failed before.
@@ -126,7 +118,7 @@ impl<'a> DeliveryAudit<'a> {
         DeliveryAudit {
             lists,
             tracker,
-            writers: no_writers(),
+            writers: [WorkerId::default(); 256],
             list: Vec::new(alloc),
             out_of_memory: false,
         }

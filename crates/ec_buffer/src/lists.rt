@@ -51,17 +51,6 @@ fn is_wait(shape: &BufferShape, number: u64, act: &Act) -> bool
     }
 }
 
-/// Returns whether the worker with this number is a producer; false if there is no such worker.
-fn is_producer(shape: &BufferShape, setup: &Setup, number: usize) -> bool
-    requires { number < 16 }
-    ensures { result ≡ may_take setup.now shape.now.put_seq number }
-{
-    match WorkerId::new(number) {
-        Some(worker) => setup.may_take(shape.put_seq(), worker),
-        None => false,
-    }
-}
-
 impl<'a> Lists<'a> {
     pub(crate) fn new(shape: &'a BufferShape, setup: &'a Setup) -> Self
         ensures shape { result.shape.now ≡ shape.now }
@@ -69,7 +58,8 @@ impl<'a> Lists<'a> {
     {
         let mut producers = [false; 16];
         for number in 0..16 {
-            producers[number] = is_producer(shape, setup, number);
+            let worker = WorkerId::new(number).unwrap();
+            producers[number] = setup.may_take(shape.put_seq(), worker);
         }
         Lists {
             shape,
