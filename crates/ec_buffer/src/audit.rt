@@ -1,5 +1,5 @@
 //! The deliveries of a run.
-ghost use Rattle.std.specs.Prelude.{◌≡◌, ◌<◌, false, List, [], length, replicate, reverse, IfOk, IfErr, IfSome, OnOk};
+ghost use Rattle.std.specs.Prelude.{◌≡◌, ◌<◌, false, List, [], length, reverse, IfOk, IfErr, IfSome, OnOk};
 ghost use Rattle.ec_core.specs.Audits.{IsAuditFault};
 ghost use Rattle.ec_core.specs.Ending.{EndsAt};
 ghost use Rattle.ec_core.specs.declared.act.Entry.{Entry};
@@ -12,7 +12,7 @@ use crate::lists::Lists;
 use crate::{BufferShape, Delivery};
 use ec_core::{Act, Audit, AuditFault, Entry, Run, Tracker, walk};
 use ec_count::{CellId, Setup, WorkerId};
-use std::alloc::{AllocError, Global};
+use std::alloc::Global;
 use std::marker::Model;
 
 /// Returns the index of a cell in the buffer, counted from 0, if it is one of the buffer's cells.
@@ -27,65 +27,19 @@ fn cell_index(shape: &BufferShape, cell: CellId) -> Option<usize>
     }
 }
 
-fn put_place(shape: &BufferShape, act: Act) -> Option<usize>
-    ensures value { result ≡ put_place shape.now act }
-    ensures few { IfSome result (λ place. place < 256) }
-{
-    match act {
-        Act::Put(cell, _) => cell_index(shape, cell),
-        _ => None,
-    }
-}
-
-fn get_place(shape: &BufferShape, act: Act) -> Option<usize>
-    ensures value { result ≡ get_place shape.now act }
-    ensures few { IfSome result (λ place. place < 256) }
-{
-    match act {
-        Act::Get(cell) => cell_index(shape, cell),
-        _ => None,
-    }
-}
-
 /// Records the worker of a put as the last writer of its cell.
 fn note_put(shape: &BufferShape, entry: &Entry, writers: &mut [WorkerId; 256])
     ensures { writers.new ≡ writers_after (put_place shape.now entry.now.act) entry.now.worker writers.old }
 {
-    if let Some(place) = put_place(shape, entry.act) {
-        writers[place] = entry.worker;
+    if let Act::Put(cell, _) = entry.act {
+        if let Some(place) = cell_index(shape, cell) {
+            writers[place] = entry.worker;
+        }
     }
 }
 
-/// Returns the last writers before the first put: an arbitrary worker for each cell.
-fn no_writers() -> [WorkerId; 256]
-    ensures { result ≡ replicate 256 0 }
-{
-    let first = WorkerId::default();
-    [first; 256]
-}
-
-/// Adds the delivery of a get, if the entry is one.
-fn add_get(
-    shape: &BufferShape,
-    entry: &Entry,
-    writers: &[WorkerId; 256],
-    list: &mut Vec<Delivery>,
-) -> Result<(), AllocError>
-    ensures { OnOk result (list.new.items ≡ list_after (get_place shape.now entry.now.act) entry.now writers.now list.old.items) }
-{
-    if let Some(place) = get_place(shape, entry.act) {
-        list.push(Delivery {
-            number: list.len() as u64,
-            producer: writers[place],
-            consumer: entry.worker,
-            item: entry.reply.number(),
-        })?;
-    }
-    Ok(())
-}
-
-/// Adds the delivery of a get, unless an allocation has failed before. Returns whether one has
-/// failed.
+/// Adds the delivery of a get, if the entry is one, unless an allocation has failed before.
+/// Returns whether one has failed.
 fn add_fails(
     out_of_memory: bool,
     shape: &BufferShape,
@@ -96,7 +50,21 @@ fn add_fails(
     ensures before { result ≡ false → out_of_memory ≡ false }
     ensures added { result ≡ false → list.new.items ≡ list_after (get_place shape.now entry.now.act) entry.now writers.now list.old.items }
 {
-    out_of_memory || add_get(shape, entry, writers, list).is_err()
+    if out_of_memory {
+        return true;
+    }
+    if let Act::Get(cell) = entry.act {
+        if let Some(place) = cell_index(shape, cell) {
+            let delivery = Delivery {
+                number: list.len() as u64,
+                producer: writers[place],
+                consumer: entry.worker,
+                item: entry.reply.number(),
+            };
+            return list.push(delivery).is_err();
+        }
+    }
+    false
 }
 
 /// The audit of a buffer in a pass over a run. An entry whose call is not on the buffer may be left
@@ -150,7 +118,7 @@ impl<'a> DeliveryAudit<'a> {
         DeliveryAudit {
             lists,
             tracker,
-            writers: no_writers(),
+            writers: [WorkerId::default(); 256],
             list: Vec::new(alloc),
             out_of_memory: false,
         }
@@ -162,21 +130,12 @@ impl<'a> DeliveryAudit<'a> {
         ensures list { (h : List Entry) → EndsAt self.entry.setup (RepresentsDeliveries self.entry) h → IfOk result (λ list. AreDeliveries self.entry.setup self.entry.shape h list.items) }
         ensures err { (h : List Entry) → EndsAt self.entry.setup (RepresentsDeliveries self.entry) h → IfErr result (IsAuditFault (buffer_rules self.entry.setup self.entry.shape) h) }
     {
-        let DeliveryAudit {
-            lists,
-            tracker,
-            list,
-            out_of_memory,
-            ..
-        } = self;
-        lists.shape.invariant();
-        if let Err(fault) = tracker.finding() {
-            return Err(fault);
-        }
-        if out_of_memory {
+        self.lists.shape.invariant();
+        self.tracker.finding()?;
+        if self.out_of_memory {
             return Err(AuditFault::Memory);
         }
-        Ok(list)
+        Ok(self.list)
     }
 
     /// Returns the deliveries after all entries of a run, as `deliveries` lists them.

@@ -40,17 +40,12 @@ impl ListPhase {
         ensures turn { self.new.turn ≡ turn_after self.old.at self.old.turn reply }
         ensures going { self.new.going ≡ is_pending reply }
     {
-        let number = match reply {
-            Reply::Pending => {
-                self.going = true;
-                return;
-            }
-            Reply::Done => 0,
-            Reply::Number(number) => number,
-        };
-        self.going = false;
+        self.going = reply.is_pending();
+        if self.going {
+            return;
+        }
         if self.at == 0 {
-            self.turn = number;
+            self.turn = reply.number();
         }
         self.at += 1;
     }

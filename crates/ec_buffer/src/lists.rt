@@ -12,7 +12,7 @@ use crate::BufferShape;
 use crate::consume::consume_at;
 use crate::produce::produce_at;
 use ec_core::{Act, ListProgress, Protocol, Reply, is_due};
-use ec_count::{EventId, SeqId, Setup, WorkerId};
+use ec_count::{Setup, WorkerId};
 
 /// The call lists of a buffer.
 #[derive(Drop)]
@@ -24,31 +24,17 @@ pub(crate) struct Lists<'a> {
     ghost known: { AreProducers setup.now shape.now 16 producers },
 }
 
-fn is_count(shape: &BufferShape, event: EventId) -> bool
-    ensures { result ≡ is_on shape.now (Act.Read event) }
-{
-    event == shape.in_count() || event == shape.out_count()
-}
-
-fn is_sequencer(shape: &BufferShape, sequencer: SeqId) -> bool
-    ensures { result ≡ is_on shape.now (Act.Ticket sequencer) }
-{
-    sequencer == shape.put_seq() || sequencer == shape.take_seq()
-}
-
 /// Returns whether an act names an object of the buffer.
 pub fn is_on(shape: &BufferShape, act: &Act) -> bool
     ensures { result ≡ is_on shape.now act.now }
 {
     match act {
-        Act::Advance(event) => is_count(shape, *event),
-        Act::Read(event) => is_count(shape, *event),
-        Act::Await(event, _) => is_count(shape, *event),
+        Act::Advance(event) | Act::Read(event) | Act::Await(event, _) | Act::Hand(event, _) => {
+            *event == shape.in_count() || *event == shape.out_count()
+        }
         Act::Go => false,
-        Act::Ticket(sequencer) => is_sequencer(shape, *sequencer),
-        Act::Put(cell, _) => shape.is_cell(*cell),
-        Act::Get(cell) => shape.is_cell(*cell),
-        Act::Hand(event, _) => is_count(shape, *event),
+        Act::Ticket(line) => *line == shape.put_seq() || *line == shape.take_seq(),
+        Act::Put(cell, _) | Act::Get(cell) => shape.is_cell(*cell),
     }
 }
 
@@ -65,17 +51,6 @@ fn is_wait(shape: &BufferShape, number: u64, act: &Act) -> bool
     }
 }
 
-/// Returns whether the worker with this number is a producer; false if there is no such worker.
-fn is_producer(shape: &BufferShape, setup: &Setup, number: usize) -> bool
-    requires { number < 16 }
-    ensures { result ≡ may_take setup.now shape.now.put_seq number }
-{
-    match WorkerId::new(number) {
-        Some(worker) => setup.may_take(shape.put_seq(), worker),
-        None => false,
-    }
-}
-
 impl<'a> Lists<'a> {
     pub(crate) fn new(shape: &'a BufferShape, setup: &'a Setup) -> Self
         ensures shape { result.shape.now ≡ shape.now }
@@ -83,7 +58,8 @@ impl<'a> Lists<'a> {
     {
         let mut producers = [false; 16];
         for number in 0..16 {
-            producers[number] = is_producer(shape, setup, number);
+            let worker = WorkerId::new(number).unwrap();
+            producers[number] = setup.may_take(shape.put_seq(), worker);
         }
         Lists {
             shape,
@@ -140,12 +116,7 @@ impl<'a> Protocol for Lists<'a> {
         op: &Act,
         reply: Reply,
     ) -> ListProgress {
-        let number = match reply {
-            Reply::Pending => return *kept,
-            Reply::Done => 0,
-            Reply::Number(number) => number,
-        };
-        if !is_on(self.shape, op) {
+        if reply.is_pending() || !is_on(self.shape, op) {
             return *kept;
         }
         if kept.at >= 4 {
@@ -153,7 +124,11 @@ impl<'a> Protocol for Lists<'a> {
         }
         ListProgress {
             at: kept.at + 1,
-            first: if kept.at == 0 { number } else { kept.first },
+            first: if kept.at == 0 {
+                reply.number()
+            } else {
+                kept.first
+            },
             second: 0,
         }
     }

@@ -3,7 +3,7 @@ ghost use Rattle.std.specs.Prelude.{◌≡◌, ℕ, ◌+◌, ◌%◌, ◌≤◌,
 ghost use Rattle.std.specs.Result.{result_err};
 ghost use Rattle.ec_count.specs.Tables.{IsDeclared};
 ghost use Rattle.ec_buffer.specs.Follows.{is_cell};
-ghost use Rattle.ec_buffer.specs.Shapes.{IsShape, DeclaresBuffer, Fits, lacks_room, buffer_fault, with_buffer, next_buffer};
+ghost use Rattle.ec_buffer.specs.Shapes.{IsShape, DeclaresBuffer, Fits, buffer_fault, with_buffer, next_buffer};
 
 use ec_count::{CellId, EventId, SeqId, Setup, SetupFault, WorkerId, concat, shares_worker};
 use std::marker::Model;
@@ -100,21 +100,6 @@ impl BufferShape {
         CellId::new(place).unwrap()
     }
 
-    fn declares(&self, setup: &Setup, produce: &[WorkerId], consume: &[WorkerId]) -> bool
-        requires few_produce { length produce.now ≤ 16 }
-        requires few_consume { length consume.now ≤ 16 }
-        ensures { IsTrue result ↔ DeclaresBuffer self.now setup.now produce.now consume.now }
-    {
-        let both = concat(produce, consume);
-        let observe = both.as_slice();
-        setup.declares_fixed_event(self.in_count, produce, observe)
-            && setup.declares_fixed_event(self.out_count, consume, observe)
-            && setup.declares_sequencer(self.put_seq, produce)
-            && setup.declares_sequencer(self.take_seq, consume)
-            && setup.declares_cells(self.first_cell, self.cells(), produce, consume)
-            && !shares_worker(produce, consume)
-    }
-
     /// Returns whether the objects are declared there, with the rights of a buffer. The components
     /// of the eventcounts are not transferable, and producers and consumers share no worker.
     pub fn fits(&self, setup: &Setup) -> bool
@@ -123,7 +108,14 @@ impl BufferShape {
         setup.invariant();
         let produce = setup.signallers(self.in_count);
         let consume = setup.signallers(self.out_count);
-        self.declares(setup, produce, consume)
+        let both = concat(produce, consume);
+        let observe = both.as_slice();
+        setup.declares_fixed_event(self.in_count, produce, observe)
+            && setup.declares_fixed_event(self.out_count, consume, observe)
+            && setup.declares_sequencer(self.put_seq, produce)
+            && setup.declares_sequencer(self.take_seq, consume)
+            && setup.declares_cells(self.first_cell, self.cells(), produce, consume)
+            && !shares_worker(produce, consume)
     }
 }
 
@@ -144,19 +136,11 @@ pub fn declare_buffer(
     ensures err { OnErr result (setup.new ≡ setup.old) }
 {
     setup.invariant();
-    let full = lacks_room(setup, n);
+    let full = setup.events() + 2 > 32 || setup.sequencers() + 2 > 32 || n > 256 - setup.cells();
     if let Some(fault) = setup.roles_fault(full, produce, consume, n == 0) {
         return Err(fault);
     }
     Ok(add_buffer(setup, n, produce, consume))
-}
-
-/// Returns whether some table has no room for a buffer of n cells.
-fn lacks_room(setup: &Setup, n: usize) -> bool
-    ensures { result ≡ lacks_room setup.now n }
-{
-    setup.invariant();
-    setup.events() + 2 > 32 || setup.sequencers() + 2 > 32 || n > 256 - setup.cells()
 }
 
 fn add_buffer(

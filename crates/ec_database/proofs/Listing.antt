@@ -1,6 +1,6 @@
 -- The accepted tries are listed in the order of their last steps.
 use Rattle.std.proofs.Common.{◌≡◌, ℕ, Bool, true, false, ◌||◌, not, cond, List, [], ◌∷◌, ◌++◌, append_assoc, length, reverse, Option, Some, None, refl, ap, sym, ◌∙◌, arith, ◌⊎◌, inl, inr, slice_get}
-use Rattle.std.specs.Prelude.{option_to_list}
+use Rattle.std.specs.Prelude.{option_to_list, Result, Ok, Err, is_err, OnOk}
 use Rattle.std.proofs.lemmas.List.{append-nil}
 use Rattle.ec_count.specs.Tables.{Tables}
 use Rattle.ec_core.specs.declared.act.Entry.{Entry}
@@ -17,6 +17,11 @@ use Rattle.ec_database.specs.Auditing.{completed_call}
 use Rattle.ec_database.specs.Laws.{IsFollowed, TriesAreListed}
 use Rattle.ec_database.proofs.CallsStand.{entry_at}
 use Rattle.ec_database.proofs.Undisturbed.{here, undisturbed}
+
+-- what a call ensures if it returns no error
+pub not_err : {T E P : Type 0} (r : Result T E) → is_err r ≡ false → OnOk r P → P
+not_err (Ok x) none h = h
+not_err (Err e) none h = cc
 
 tries_step : (d : Database) (writers : ℕ → Bool) (x : Entry) (past : List Entry) → accepted_tries d writers (x ∷ past) ≡ accepted_tries d writers past ++ option_to_list (ended_at d writers x past)
 unfolding accepted_tries

@@ -12,7 +12,7 @@ ghost use Rattle.ec_database.specs.Auditing.{accepted_try, completed_call, found
 use crate::DatabaseShape;
 use crate::lists::{Lists, is_on};
 use crate::tries::{Accepted, AcceptedTries, TryView};
-use ec_core::{Act, Audit, AuditFault, Entry, ListProgress, Reply, Run, Tracker, walk};
+use ec_core::{Act, Audit, AuditFault, Entry, ListProgress, Run, Tracker, walk};
 use ec_count::{Setup, WorkerId, filled};
 use std::alloc::{AllocError, Global};
 use std::marker::Model;
@@ -31,22 +31,14 @@ struct ReaderCall {
 fn completed_call(lists: &Lists, kept: &ListProgress, op: &Act, entry: &Entry) -> Option<ReaderCall>
     ensures { result ≡ completed_call lists.now.shape.now (writes lists.now.setup.now lists.now.shape.now entry.now.worker) kept.now op.now entry.now }
 {
-    if lists.writes(entry.worker) {
-        return None;
-    }
-    let number = match entry.reply {
-        Reply::Pending => return None,
-        Reply::Done => 0,
-        Reply::Number(number) => number,
-    };
-    if !is_on(lists.shape, op) {
+    if lists.writes(entry.worker) || entry.reply.is_pending() || !is_on(lists.shape, op) {
         return None;
     }
     Some(ReaderCall {
         worker: entry.worker,
         at: kept.at,
         version: kept.first,
-        number,
+        number: entry.reply.number(),
     })
 }
 
@@ -95,32 +87,38 @@ impl Got {
     }
 
     /// Processes the next entry of a run, given the progress of its worker and the act that began
-    /// its call. Adds the accepted try that it ends.
-    fn take(
+    /// its call, and adds the accepted try that it ends, unless an allocation has failed before.
+    /// Returns whether one has failed.
+    fn add_fails(
         &mut self,
+        out_of_memory: bool,
         lists: &Lists,
         kept: &ListProgress,
         op: &Act,
         entry: &Entry,
         tries: &mut AcceptedTries,
-    ) -> Result<(), AllocError>
+    ) -> bool
         requires { tries.old.cells ≡ lists.now.shape.now.cells }
         ensures cells { tries.new.cells ≡ tries.old.cells }
-        ensures held { (past : List Entry) → ReadsOn lists.now.setup.now lists.now.shape.now kept.now op.now entry.now past
+        ensures before { result ≡ false → out_of_memory ≡ false }
+        ensures held { result ≡ false → (past : List Entry) → ReadsOn lists.now.setup.now lists.now.shape.now kept.now op.now entry.now past
             → HoldsGot lists.now.shape.now (writes lists.now.setup.now lists.now.shape.now) self.old.rows past
             → HoldsGot lists.now.shape.now (writes lists.now.setup.now lists.now.shape.now) self.new.rows (entry.now ∷ past) }
-        ensures tries { OnOk result ((past : List Entry) → ReadsOn lists.now.setup.now lists.now.shape.now kept.now op.now entry.now past
+        ensures tries { result ≡ false → (past : List Entry) → ReadsOn lists.now.setup.now lists.now.shape.now kept.now op.now entry.now past
             → HoldsGot lists.now.shape.now (writes lists.now.setup.now lists.now.shape.now) self.old.rows past
             → tries.old.list ≡ accepted_tries lists.now.shape.now (writes lists.now.setup.now lists.now.shape.now) past
-            → tries.new.list ≡ accepted_tries lists.now.shape.now (writes lists.now.setup.now lists.now.shape.now) (entry.now ∷ past)) }
+            → tries.new.list ≡ accepted_tries lists.now.shape.now (writes lists.now.setup.now lists.now.shape.now) (entry.now ∷ past) }
     {
+        if out_of_memory {
+            return true;
+        }
         let _reader = entry.worker.get();
         let Some(call) = completed_call(lists, kept, op, entry) else {
-            return Ok(());
+            return false;
         };
         let cells = lists.shape.cells();
         self.keep(cells, &call);
-        self.add(cells, &call, tries)
+        self.add(cells, &call, tries).is_err()
     }
 }
 
@@ -146,31 +144,6 @@ impl<'a> Model for VersionAudit<'a> {
     ghost invariant = { λ s. s.tries.cells ≡ s.lists.shape.now.cells };
 }
 
-/// Processes the next entry, and adds the accepted try that it ends, unless an allocation has
-/// failed before. Returns whether one has failed.
-fn add_fails(
-    out_of_memory: bool,
-    lists: &Lists,
-    kept: &ListProgress,
-    op: &Act,
-    entry: &Entry,
-    got: &mut Got,
-    tries: &mut AcceptedTries,
-) -> bool
-    requires { tries.old.cells ≡ lists.now.shape.now.cells }
-    ensures cells { tries.new.cells ≡ tries.old.cells }
-    ensures before { result ≡ false → out_of_memory ≡ false }
-    ensures held { result ≡ false → (past : List Entry) → ReadsOn lists.now.setup.now lists.now.shape.now kept.now op.now entry.now past
-        → HoldsGot lists.now.shape.now (writes lists.now.setup.now lists.now.shape.now) got.old.rows past
-        → HoldsGot lists.now.shape.now (writes lists.now.setup.now lists.now.shape.now) got.new.rows (entry.now ∷ past) }
-    ensures tries { result ≡ false → (past : List Entry) → ReadsOn lists.now.setup.now lists.now.shape.now kept.now op.now entry.now past
-        → HoldsGot lists.now.shape.now (writes lists.now.setup.now lists.now.shape.now) got.old.rows past
-        → tries.old.list ≡ accepted_tries lists.now.shape.now (writes lists.now.setup.now lists.now.shape.now) past
-        → tries.new.list ≡ accepted_tries lists.now.shape.now (writes lists.now.setup.now lists.now.shape.now) (entry.now ∷ past) }
-{
-    out_of_memory || got.take(lists, kept, op, entry, tries).is_err()
-}
-
 impl<'a> Audit for VersionAudit<'a> {
     ghost use Rattle.ec_database.specs.Auditing.{VersionsOn};
 
@@ -186,7 +159,7 @@ impl<'a> Audit for VersionAudit<'a> {
             out_of_memory,
         } = self;
         let kept = tracker.list_progress(entry.worker);
-        *out_of_memory = add_fails(*out_of_memory, lists, &kept, op, entry, got, tries);
+        *out_of_memory = got.add_fails(*out_of_memory, lists, &kept, op, entry, tries);
         tracker.take(lists, place, op, entry);
     }
 }
@@ -213,8 +186,7 @@ impl<'a> VersionAudit<'a> {
     pub fn completed_count(&self, worker: WorkerId) -> usize
         ensures { (past : List Entry) → RepresentsVersions self.now past → result ≡ length (block (database_rules self.now.setup self.now.shape worker) worker past) }
     {
-        let kept = self.tracker.list_progress(worker);
-        kept.at
+        self.tracker.list_progress(worker).at
     }
 
     /// Returns how many accepted tries there are so far, or `None` if there was no memory for one.
@@ -242,21 +214,12 @@ impl<'a> VersionAudit<'a> {
         ensures undisturbed { (h : List Entry) → EndsAt self.entry.setup (RepresentsVersions self.entry) h → IfOk result (λ tries. AreUndisturbed self.entry.setup self.entry.shape h tries.list) }
         ensures err { (h : List Entry) → EndsAt self.entry.setup (RepresentsVersions self.entry) h → IfErr result (IsAuditFault (database_rules self.entry.setup self.entry.shape) h) }
     {
-        let VersionAudit {
-            lists,
-            tracker,
-            tries,
-            out_of_memory,
-            ..
-        } = self;
-        lists.shape.invariant();
-        if let Err(fault) = tracker.finding() {
-            return Err(fault);
-        }
-        if out_of_memory {
+        self.lists.shape.invariant();
+        self.tracker.finding()?;
+        if self.out_of_memory {
             return Err(AuditFault::Memory);
         }
-        Ok(tries)
+        Ok(self.tries)
     }
 
     /// Returns the accepted tries after all entries of a run, as `versions` lists them.

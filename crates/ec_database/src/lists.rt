@@ -4,14 +4,14 @@ ghost use Rattle.ec_core.specs.CallLists.{reply_number};
 ghost use Rattle.ec_core.specs.declared.act.Act.{Act};
 ghost use Rattle.ec_core.specs.declared.act.Act.TheVariants.{Read, Ticket, Get};
 ghost use Rattle.ec_core.specs.Following.{CompletedCall};
-ghost use Rattle.ec_database.specs.Following.{is_cell, is_on, writes, rules};
+ghost use Rattle.ec_database.specs.Following.{is_on, writes, rules};
 ghost use Rattle.ec_database.specs.Auditing.{ArePlaced};
 ghost use Rattle.ec_database.specs.SnapshotPhases.{list_progress};
 
 use crate::DatabaseShape;
 use crate::places::{try_at, write_at};
 use ec_core::{Act, ListProgress, Protocol, Reply, is_due};
-use ec_count::{CellId, EventId, SeqId, Setup, WorkerId};
+use ec_count::{Setup, WorkerId};
 
 /// The call lists of a database's writers and readers, as they are declared in a setup.
 #[derive(Drop)]
@@ -23,49 +23,17 @@ pub(crate) struct Lists<'a> {
     ghost known: { ArePlaced (writes setup.now shape.now) 16 writers },
 }
 
-fn is_count(shape: &DatabaseShape, e: EventId) -> bool
-    ensures { result ≡ is_on shape.now (Act.Read e) }
-{
-    e.get() == shape.start().get() || e.get() == shape.done().get()
-}
-
-fn is_turn(shape: &DatabaseShape, q: SeqId) -> bool
-    ensures { result ≡ is_on shape.now (Act.Ticket q) }
-{
-    q.get() == shape.turn().get()
-}
-
-fn is_cell(shape: &DatabaseShape, x: CellId) -> bool
-    ensures { result ≡ is_cell shape.now x }
-{
-    let first = shape.first_cell().get();
-    first <= x.get() && x.get() < first + shape.cells()
-}
-
 /// Returns whether an act names an object of the database.
 pub fn is_on(shape: &DatabaseShape, act: &Act) -> bool
     ensures { result ≡ is_on shape.now act.now }
 {
     match act {
-        Act::Advance(e) => is_count(shape, *e),
-        Act::Read(e) => is_count(shape, *e),
-        Act::Await(e, _) => is_count(shape, *e),
+        Act::Advance(event) | Act::Read(event) | Act::Await(event, _) | Act::Hand(event, _) => {
+            *event == shape.start() || *event == shape.done()
+        }
         Act::Go => false,
-        Act::Ticket(q) => is_turn(shape, *q),
-        Act::Put(x, _) => is_cell(shape, *x),
-        Act::Get(x) => is_cell(shape, *x),
-        Act::Hand(e, _) => is_count(shape, *e),
-    }
-}
-
-/// Returns whether the worker with this number is a writer; false if there is no such worker.
-fn is_writer(shape: &DatabaseShape, setup: &Setup, number: usize) -> bool
-    requires { number < 16 }
-    ensures { result ≡ writes setup.now shape.now number }
-{
-    match WorkerId::new(number) {
-        Some(worker) => setup.component_of(shape.start(), worker).is_some(),
-        None => false,
+        Act::Ticket(sequencer) => *sequencer == shape.turn(),
+        Act::Put(cell, _) | Act::Get(cell) => shape.is_cell(*cell),
     }
 }
 
@@ -76,7 +44,8 @@ impl<'a> Lists<'a> {
     {
         let mut writers = [false; 16];
         for number in 0..16 {
-            writers[number] = is_writer(shape, setup, number);
+            let worker = WorkerId::new(number).unwrap();
+            writers[number] = setup.component_of(shape.start(), worker).is_some();
         }
         Lists {
             shape,
@@ -135,18 +104,13 @@ impl Protocol for Lists<'_> {
     }
 
     fn after(&self, worker: WorkerId, kept: &ListProgress, op: &Act, reply: Reply) -> ListProgress {
-        let number = match reply {
-            Reply::Pending => return *kept,
-            Reply::Done => 0,
-            Reply::Number(number) => number,
-        };
-        if !is_on(self.shape, op) {
+        if reply.is_pending() || !is_on(self.shape, op) {
             return *kept;
         }
         if kept.at >= self.last(worker) {
             return self.start();
         }
-        with_number(kept, number)
+        with_number(kept, reply.number())
     }
 }
 

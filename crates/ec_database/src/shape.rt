@@ -2,7 +2,8 @@
 ghost use Rattle.std.specs.Prelude.{◌≡◌, ℕ, ◌+◌, ◌≤◌, ◌<◌, ◌↔◌, IsTrue, List, length, None, IfOk, OnOk, OnErr};
 ghost use Rattle.std.specs.Result.{result_err};
 ghost use Rattle.ec_count.specs.Tables.{IsDeclared};
-ghost use Rattle.ec_database.specs.Shapes.{DeclaresDatabase, Fits, IsShape, lacks_room, database_fault, with_database, next_database};
+ghost use Rattle.ec_database.specs.Following.{is_cell};
+ghost use Rattle.ec_database.specs.Shapes.{DeclaresDatabase, Fits, IsShape, database_fault, with_database, next_database};
 
 use ec_count::{CellId, EventId, SeqId, Setup, SetupFault, WorkerId, concat, shares_worker};
 use std::marker::Model;
@@ -84,18 +85,12 @@ impl DatabaseShape {
         CellId::new(self.first_cell.get() + place).unwrap()
     }
 
-    fn declares(&self, setup: &Setup, write: &[WorkerId], read: &[WorkerId]) -> bool
-        requires few_write { length write.now ≤ 16 }
-        requires few_read { length read.now ≤ 16 }
-        ensures { IsTrue result ↔ DeclaresDatabase self.now setup.now write.now read.now }
+    /// Returns whether this is one of the cells.
+    pub(crate) fn is_cell(&self, cell: CellId) -> bool
+        ensures { result ≡ is_cell self.now cell }
     {
-        let both = concat(write, read);
-        setup.declares_fixed_event(self.start, write, read)
-            && setup.declares_fixed_event(self.done, write, both.as_slice())
-            && setup.declares_sequencer(self.turn, write)
-            && setup.declares_cells(self.first_cell, self.cells(), write, read)
-            && !read.is_empty()
-            && !shares_worker(write, read)
+        let first = self.first_cell.get();
+        first <= cell.get() && cell.get() < first + self.cells()
     }
 
     /// Returns whether the objects are declared there, with the rights of a database. The
@@ -107,7 +102,13 @@ impl DatabaseShape {
         setup.invariant();
         let write = setup.signallers(self.start);
         let read = setup.observers(self.start);
-        self.declares(setup, write, read)
+        let both = concat(write, read);
+        setup.declares_fixed_event(self.start, write, read)
+            && setup.declares_fixed_event(self.done, write, both.as_slice())
+            && setup.declares_sequencer(self.turn, write)
+            && setup.declares_cells(self.first_cell, self.cells(), write, read)
+            && !read.is_empty()
+            && !shares_worker(write, read)
     }
 }
 
@@ -129,19 +130,11 @@ pub fn declare_database(
     ensures err { OnErr result (setup.new ≡ setup.old) }
 {
     setup.invariant();
-    let full = lacks_room(setup, n);
+    let full = setup.events() + 2 > 32 || setup.sequencers() + 1 > 32 || n > 256 - setup.cells();
     if let Some(fault) = setup.roles_fault(full, write, read, n == 0) {
         return Err(fault);
     }
     Ok(add_database(setup, n, write, read))
-}
-
-/// Returns whether some table has no room for a database of n cells.
-fn lacks_room(setup: &Setup, n: usize) -> bool
-    ensures { result ≡ lacks_room setup.now n }
-{
-    setup.invariant();
-    setup.events() + 2 > 32 || setup.sequencers() + 1 > 32 || n > 256 - setup.cells()
 }
 
 fn add_database(setup: &mut Setup, n: usize, write: &[WorkerId], read: &[WorkerId]) -> DatabaseShape

@@ -123,14 +123,10 @@ impl Procedure for Snapshot {
         ensures ends_told { is_pending reply ≡ false → (op : Act) → (calls : List CompletedCall)
             → ending self.new calls ≡ ending self.old (record { op = op; reply = reply } ∷ calls) }
     {
-        let number = match reply {
-            Reply::Pending => {
-                self.going = true;
-                return;
-            }
-            Reply::Done => 0,
-            Reply::Number(number) => number,
-        };
-        self.take_reply(number);
+        if reply.is_pending() {
+            self.going = true;
+            return;
+        }
+        self.take_reply(reply.number());
     }
 }

@@ -82,14 +82,10 @@ impl Procedure for WriteAll {
     }
 
     fn take(&mut self, reply: Reply) {
-        let number = match reply {
-            Reply::Pending => {
-                self.going = true;
-                return;
-            }
-            Reply::Done => 0,
-            Reply::Number(number) => number,
-        };
-        self.take_reply(number);
+        if reply.is_pending() {
+            self.going = true;
+            return;
+        }
+        self.take_reply(reply.number());
     }
 }

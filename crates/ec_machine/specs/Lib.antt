@@ -1,5 +1,4 @@
 pub mod Follows
-pub mod Kinds
 pub mod Laws
 pub mod Left
 pub mod Limits

@@ -1,5 +1,5 @@
 -- The command that an interpreter is executing.
-use Rattle.std.specs.Prelude.{Bool, true, false, List, Option, None, if◌then◌else◌}
+use Rattle.std.specs.Prelude.{Bool, false, List, Option, None, if◌then◌else◌}
 use Rattle.ec_core.specs.declared.act.Act.{Act}
 use Rattle.ec_core.specs.Following.{CompletedCall}
 use Rattle.ec_buffer.specs.contracts.produce.ProduceProcedure.TheImpl as produce
@@ -7,10 +7,8 @@ use Rattle.ec_buffer.specs.contracts.consume.ConsumeProcedure.TheImpl as consume
 use Rattle.ec_database.specs.contracts.write.WriteAllProcedure.TheImpl as write
 use Rattle.ec_database.specs.contracts.snapshot.SnapshotProcedure.TheImpl as snapshot
 use Rattle.ec_semaphore.specs.contracts.down.DownProcedure.TheImpl as down
-use Rattle.ec_semaphore.specs.contracts.up.UpProcedure.TheImpl as up
 use Rattle.ec_semaphore.specs.contracts.down_both.DownBothProcedure.TheImpl as both
 use Rattle.ec_machine.specs.declared.one_call.OneCall.{OneCall}
-use Rattle.ec_machine.specs.declared.command.Command.{Command, WriteAll, Snapshot}
 use Rattle.ec_machine.specs.declared.small_task.SmallTask.{SmallTask}
 use Rattle.ec_machine.specs.declared.small_task.SmallTask.TheVariants as small
 use Rattle.ec_machine.specs.declared.large_task.LargeTask.{LargeTask}
@@ -21,12 +19,6 @@ use Rattle.ec_machine.specs.Runs.{one_call}
 abbrev pub one_rest : OneCall → List CompletedCall → Option Act
 one_rest s calls = if s.is_over then None else one_call s.act calls
 
--- whether a command keeps a value for each cell of a database
-abbrev pub is_large_task : Command → Bool
-is_large_task (WriteAll d vs) = true
-is_large_task (Snapshot d tries) = true
-is_large_task _ = false
-
 -- the call that comes after these further calls of the command, or none
 abbrev pub small_rest : SmallTask → List CompletedCall → Option Act
 small_rest small.Nothing calls = None
@@ -34,7 +26,6 @@ small_rest (small.One s) calls = one_rest s calls
 small_rest (small.Produce s) calls = produce.ghosts.rest s calls
 small_rest (small.Consume s) calls = consume.ghosts.rest s calls
 small_rest (small.Down s) calls = down.ghosts.rest s calls
-small_rest (small.Up s) calls = up.ghosts.rest s calls
 small_rest (small.DownBoth s) calls = both.ghosts.rest s calls
 
 abbrev pub large_rest : LargeTask → List CompletedCall → Option Act
@@ -52,7 +43,6 @@ small_going (small.One s) = s.going
 small_going (small.Produce s) = produce.ghosts.is_going s
 small_going (small.Consume s) = consume.ghosts.is_going s
 small_going (small.Down s) = down.ghosts.is_going s
-small_going (small.Up s) = up.ghosts.is_going s
 small_going (small.DownBoth s) = both.ghosts.is_going s
 
 abbrev pub large_going : LargeTask → Bool

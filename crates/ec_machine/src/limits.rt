@@ -96,20 +96,13 @@ fn is_sound_one(command: &Command) -> bool
         Command::WriteAll(shape, values) => {
             values.len() == shape.cells() && are_values(values.as_slice())
         }
-        Command::Snapshot(_, tries) => is_tries(*tries),
+        Command::Snapshot(_, tries) => 1 <= *tries && *tries <= TRIES_MAX,
         Command::DownBoth(common, one, other) => are_apart(common, one, other),
         Command::Repeat(count, block) => {
             is_times(*count) && !block.is_empty() && is_sound(block.as_slice())
         }
         _ => true,
     }
-}
-
-/// Returns whether a snapshot may have so many tries.
-fn is_tries(tries: usize) -> bool
-    ensures { result ≡ (nat_le 1 tries && nat_le tries 1000) }
-{
-    1 <= tries && tries <= TRIES_MAX
 }
 
 /// Returns whether a block may be done so many times.

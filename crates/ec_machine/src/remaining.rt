@@ -92,21 +92,6 @@ fn pop_frame<'a>(frames: &mut ArrayVec<Frame<'a>, 5>) -> Option<Frame<'a>>
     }
 }
 
-/// Removes and returns the first command that is left.
-fn take_from<'a>(frames: &mut ArrayVec<Frame<'a>, 5>) -> Option<&'a Command>
-    requires fit { FramesFit 0 frames.old.items }
-    ensures fit { FramesFit 0 frames.new.items }
-    ensures left { MatchOption result ((left_of frames.old.items ≡ []) × (left_of frames.new.items ≡ [])) (λ c. left_of frames.old.items ≡ c.now ∷ left_of frames.new.items) }
-    ensures single { IfSome result (λ c. (is_single c.now ≡ true) × (is_sound_one c.now ≡ true)) }
-{
-    let frame = pop_frame(frames)?;
-    let [first, rest @ ..] = frame.rest else {
-        unreachable!();
-    };
-    push_rest(frames, rest, frame.block, frame.times);
-    Some(enter(frames, first))
-}
-
 /// The commands that are left.
 #[derive(Drop)]
 pub(crate) struct Remaining<'a> {
@@ -150,6 +135,11 @@ impl<'a> Remaining<'a> {
         ensures left { MatchOption result ((self.old ≡ []) × (self.new ≡ [])) (λ c. self.old ≡ c.now ∷ self.new) }
         ensures single { IfSome result (λ c. (is_single c.now ≡ true) × (is_sound_one c.now ≡ true)) }
     {
-        take_from(&mut self.frames)
+        let frame = pop_frame(&mut self.frames)?;
+        let [first, rest @ ..] = frame.rest else {
+            unreachable!();
+        };
+        push_rest(&mut self.frames, rest, frame.block, frame.times);
+        Some(enter(&mut self.frames, first))
     }
 }

@@ -4,7 +4,7 @@ ghost use Rattle.ec_machine.specs.Tasks.{small_rest, small_going};
 use crate::one_call::OneCall;
 use ec_buffer::{Consume, Produce};
 use ec_core::{Act, Procedure, Reply};
-use ec_semaphore::{Down, DownBoth, Up};
+use ec_semaphore::{Down, DownBoth};
 
 /// What is left of the calls of a command that keeps few numbers.
 #[derive(Drop)]
@@ -15,7 +15,6 @@ pub(crate) enum SmallTask {
     Produce(Produce),
     Consume(Consume),
     Down(Down),
-    Up(Up),
     DownBoth(DownBoth),
 }
 
@@ -31,7 +30,6 @@ impl Procedure for SmallTask {
             SmallTask::Produce(produce) => produce.next(),
             SmallTask::Consume(consume) => consume.next(),
             SmallTask::Down(down) => down.next(),
-            SmallTask::Up(up) => up.next(),
             SmallTask::DownBoth(both) => both.next(),
         }
     }
@@ -43,7 +41,6 @@ impl Procedure for SmallTask {
             SmallTask::Produce(produce) => produce.take(reply),
             SmallTask::Consume(consume) => consume.take(reply),
             SmallTask::Down(down) => down.take(reply),
-            SmallTask::Up(up) => up.take(reply),
             SmallTask::DownBoth(both) => both.take(reply),
         }
     }

@@ -1,9 +1,11 @@
 //! The command that an interpreter is executing.
 ghost use Rattle.std.specs.Prelude.{◌≡◌, false, List, None};
 ghost use Rattle.ec_core.specs.Following.{CompletedCall};
+ghost use Rattle.ec_machine.specs.Runs.{one_call};
 ghost use Rattle.ec_machine.specs.Tasks.{small_rest, small_going, large_rest, large_going, task_rest, task_going};
 
 use crate::large_task::LargeTask;
+use crate::one_call::OneCall;
 use crate::small_task::SmallTask;
 use ec_core::{Act, Procedure, Reply};
 
@@ -39,6 +41,15 @@ impl Task {
     {
         self.is_large = false;
         self.small = small;
+    }
+
+    /// Makes a command of this one call the one that is due.
+    pub(crate) fn put_one(&mut self, act: Act)
+        ensures rest { (calls : List CompletedCall)
+            → task_rest self.new calls ≡ one_call act calls }
+        ensures going { task_going self.new ≡ false }
+    {
+        self.put_small(SmallTask::One(OneCall::new(act)));
     }
 
     /// Makes this large command the one that is due.

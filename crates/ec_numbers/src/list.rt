@@ -1,5 +1,5 @@
 //! A list of numbers in 32 bits each, or in 64.
-ghost use Rattle.std.specs.Prelude.{◌≡◌, ◌+◌, ◌^◌, ◌≤◌, ◌<◌, true, false, nat_le, [], ◌∷◌, ◌++◌, length, take, slice_get, slice_index, vec_len, IfOk, IfSome, OnOk, OnErr};
+ghost use Rattle.std.specs.Prelude.{◌≡◌, ◌+◌, ◌^◌, ◌≤◌, ◌<◌, true, false, [], ◌∷◌, ◌++◌, length, take, slice_get, slice_index, vec_len, IfOk, IfSome, OnOk, OnErr};
 ghost use Rattle.std.specs.List.{insert};
 ghost use Rattle.std.specs.Vec.{vec_capacity};
 ghost use Rattle.ec_numbers.specs.Numbers.{HasRoom, is_wide_with};
@@ -7,7 +7,7 @@ ghost use Rattle.ec_numbers.specs.Numbers.{HasRoom, is_wide_with};
 use std::alloc::{AllocError, Global};
 use std::marker::Model;
 
-/// The least number that does not fit in 32 bits.
+/// The least number that needs 64 bits.
 const WIDE: u64 = 1 << 32;
 
 /// Numbers, in 32 bits each or in 64.
@@ -31,14 +31,6 @@ impl Model for NumberList {
     ghost Value = { NumberListModel };
 
     ghost view = { λ s. numbers_in s.list };
-}
-
-/// Returns whether a number needs 64 bits.
-#[inline(always)]
-fn is_wide(number: u64) -> bool
-    ensures { result ≡ nat_le (2 ^ 32) number }
-{
-    number >= WIDE
 }
 
 /// Returns the numbers of a list in 64 bits each, with room for one more.
@@ -162,7 +154,7 @@ impl NumberList {
         ensures full { OnErr result (HasRoom self.old number → ⊥) }
     {
         match &mut self.list {
-            Width::Narrow(_) if is_wide(number) => self.widen()?,
+            Width::Narrow(_) if number >= WIDE => self.widen()?,
             Width::Narrow(list) => make_room_in(list)?,
             Width::Wide(list) => make_room_in(list)?,
         }

@@ -7,11 +7,11 @@ ghost use Rattle.ec_core.specs.Calls.{is_pending};
 ghost use Rattle.ec_core.specs.Counts.{past_at, is_advance};
 ghost use Rattle.ec_core.specs.Ending.{EndsAt};
 ghost use Rattle.ec_core.specs.Following.{Follow};
+ghost use Rattle.ec_semaphore.specs.declared.shape.TheConstants.{INITIAL_MAX};
 ghost use Rattle.ec_semaphore.specs.Auditing.{RepresentsBalance};
 ghost use Rattle.ec_semaphore.specs.Balances.{is_await, balance_of, balance_parts};
 ghost use Rattle.ec_semaphore.specs.Uses.{use_rules};
 
-use crate::uses::Uses;
 use crate::{Balance, SemaphoreShape};
 use ec_core::{Act, Audit, AuditFault, Entry, Reply, Run, Tracker, walk};
 use std::marker::Model;
@@ -21,20 +21,14 @@ use std::marker::Model;
 fn is_down(shape: &SemaphoreShape, op: &Act, reply: Reply) -> bool
     ensures { result ≡ (is_await shape.now.count op.now && not (is_pending reply)) }
 {
-    match op {
-        Act::Await(event, _) => *event == shape.count() && reply != Reply::Pending,
-        _ => false,
-    }
+    matches!(op, Act::Await(event, _) if *event == shape.count()) && !reply.is_pending()
 }
 
 /// Returns whether an act advances the semaphore's eventcount.
 fn is_up(shape: &SemaphoreShape, act: &Act) -> bool
     ensures { result ≡ is_advance shape.now.count act.now }
 {
-    match act {
-        Act::Advance(event) => *event == shape.count(),
-        _ => false,
-    }
+    matches!(act, Act::Advance(event) if *event == shape.count())
 }
 
 /// Adds one if `holds`, up to `u64::MAX`.
@@ -51,7 +45,7 @@ fn count(count: &mut u64, holds: bool)
 /// be left out.
 #[derive(Drop)]
 pub struct BalanceAudit {
-    uses: Uses,
+    shape: SemaphoreShape,
     tracker: Tracker,
     downs: u64,
     ups: u64,
@@ -62,7 +56,7 @@ impl Model for BalanceAudit {
 
     ghost Value = { BalanceAuditModel };
 
-    ghost view = { λ s. record { shape = s.uses.shape; tracked = s.tracker; downs = s.downs; ups = s.ups } };
+    ghost view = { λ s. record { shape = s.shape; tracked = s.tracker; downs = s.downs; ups = s.ups } };
 }
 
 impl Audit for BalanceAudit {
@@ -72,10 +66,9 @@ impl Audit for BalanceAudit {
 
     #[inline(never)]
     fn take(&mut self, place: usize, op: &Act, entry: &Entry) {
-        let shape = self.uses.shape();
-        count(&mut self.downs, is_down(shape, op, entry.reply));
-        count(&mut self.ups, is_up(shape, &entry.act));
-        self.tracker.take(&self.uses, place, op, entry);
+        count(&mut self.downs, is_down(&self.shape, op, entry.reply));
+        count(&mut self.ups, is_up(&self.shape, &entry.act));
+        self.tracker.take(&self.shape, place, op, entry);
     }
 }
 
@@ -85,10 +78,9 @@ impl BalanceAudit {
         ensures shape { result.shape ≡ shape }
         ensures first { RepresentsBalance result [] }
     {
-        let uses = Uses::new(shape);
         BalanceAudit {
-            uses,
-            tracker: Tracker::new(&uses),
+            shape,
+            tracker: Tracker::new(&shape),
             downs: 0,
             ups: 0,
         }
@@ -97,19 +89,13 @@ impl BalanceAudit {
     /// Returns the parts of the balance after the entries so far, whether these follow the
     /// semaphore or not.
     pub fn so_far(&self) -> Balance
-        ensures { result ≡ record { initial = self.now.shape.initial; downs = self.now.downs; ups = self.now.ups } }
+        ensures value { result ≡ record { initial = self.now.shape.initial; downs = self.now.downs; ups = self.now.ups } }
+        ensures small { self.now.shape.initial ≤ INITIAL_MAX }
     {
-        let BalanceAudit {
-            uses,
-            downs,
-            ups,
-            ..
-        } = self;
-        let shape = uses.shape();
         Balance {
-            initial: shape.initial(),
-            downs: *downs,
-            ups: *ups,
+            initial: self.shape.initial(),
+            downs: self.downs,
+            ups: self.ups,
         }
     }
 
@@ -123,15 +109,8 @@ impl BalanceAudit {
         ensures small { (t : Tables) (h : List Entry) → EndsAt t (RepresentsBalance self.now) h → IfOk result (λ b. b.initial + b.ups < 2 ^ 64) }
         ensures err { (t : Tables) (h : List Entry) → EndsAt t (RepresentsBalance self.now) h → IfErr result (IsFirstBreak (use_rules self.now.shape) h) }
     {
-        if let Err(fault) = self.tracker.finding() {
-            return Err(fault);
-        }
-        let shape = self.uses.shape();
-        Ok(Balance {
-            initial: shape.initial(),
-            downs: self.downs,
-            ups: self.ups,
-        })
+        self.tracker.finding()?;
+        Ok(self.so_far())
     }
 
     /// Returns the parts of the balance after all entries of a run whose workers follow the

@@ -2,7 +2,7 @@
 ghost use Rattle.std.specs.Prelude.{◌≡◌, ℕ, ◌<◌, ◌==◌, List, [], ◌∷◌, Some, slice_get};
 ghost use Rattle.ec_core.specs.declared.protocol.ListProgress.{ListProgress};
 ghost use Rattle.ec_core.specs.Following.{CompletedCall, block_after, is_right};
-ghost use Rattle.ec_semaphore.specs.Both.{is_semaphore_sequencer, both_rules, sequencer_number};
+ghost use Rattle.ec_semaphore.specs.Both.{is_semaphore_sequencer, both_rules};
 ghost use Rattle.ec_semaphore.specs.Keeping.{list_progress_of_both};
 
 use crate::SemaphoreShape;
@@ -54,16 +54,6 @@ impl<'a> CriticalSections<'a> {
     }
 }
 
-/// Returns the sequencer that an act draws from, by number; 0 if it draws no ticket.
-fn sequencer_number(act: &Act) -> u64
-    ensures { result ≡ sequencer_number act.now }
-{
-    match act {
-        Act::Ticket(sequencer) => sequencer.get() as u64,
-        _ => 0,
-    }
-}
-
 impl<'a> Protocol for CriticalSections<'a> {
     ghost use Rattle.ec_semaphore.specs.Both.{is_semaphore_sequencer, both_rules};
     ghost use Rattle.ec_semaphore.specs.Keeping.{list_progress_of_both};
@@ -97,12 +87,7 @@ impl<'a> Protocol for CriticalSections<'a> {
         op: &Act,
         reply: Reply,
     ) -> ListProgress {
-        let number = match reply {
-            Reply::Pending => return *kept,
-            Reply::Done => 0,
-            Reply::Number(number) => number,
-        };
-        if kept.at == 0 && !is_on(&self.common, op) {
+        if reply.is_pending() || (kept.at == 0 && !is_on(&self.common, op)) {
             return *kept;
         }
         if kept.at >= 4 {
@@ -110,11 +95,10 @@ impl<'a> Protocol for CriticalSections<'a> {
         }
         ListProgress {
             at: kept.at + 1,
-            first: if kept.at == 0 { number } else { 0 },
-            second: if kept.at == 2 {
-                sequencer_number(op)
-            } else {
-                0
+            first: if kept.at == 0 { reply.number() } else { 0 },
+            second: match op {
+                Act::Ticket(sequencer) if kept.at == 2 => sequencer.get() as u64,
+                _ => 0,
             },
         }
     }

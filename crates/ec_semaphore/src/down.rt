@@ -69,17 +69,14 @@ impl Procedure for Down {
     }
 
     fn take(&mut self, reply: Reply) {
-        let number = match reply {
-            Reply::Pending => {
-                self.going = true;
-                return;
-            }
-            Reply::Done => 0,
-            Reply::Number(number) => number,
-        };
-        self.going = false;
+        self.going = reply.is_pending();
+        if self.going {
+            return;
+        }
         self.phase = match self.phase {
-            DownPhase::Draw => DownPhase::Wait { ticket: number },
+            DownPhase::Draw => DownPhase::Wait {
+                ticket: reply.number(),
+            },
             DownPhase::Wait { .. } | DownPhase::Over => DownPhase::Over,
         };
     }

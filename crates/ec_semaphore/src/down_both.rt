@@ -110,15 +110,10 @@ impl Procedure for DownBoth {
     }
 
     fn take(&mut self, reply: Reply) {
-        let number = match reply {
-            Reply::Pending => {
-                self.going = true;
-                return;
-            }
-            Reply::Done => 0,
-            Reply::Number(number) => number,
-        };
-        self.going = false;
-        self.phase = next_phase(self.phase, number);
+        self.going = reply.is_pending();
+        if self.going {
+            return;
+        }
+        self.phase = next_phase(self.phase, reply.number());
     }
 }

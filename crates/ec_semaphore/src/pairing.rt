@@ -1,5 +1,5 @@
 //! The pairs of tickets that a run draws.
-ghost use Rattle.std.specs.Prelude.{◌≡◌, ℕ, Bool, false, List, [], ◌∷◌, ◌++◌, option_to_list, reverse, IsOk, IfOk, OnOk, IfErr};
+ghost use Rattle.std.specs.Prelude.{◌≡◌, ℕ, Bool, false, List, [], ◌∷◌, ◌++◌, option_to_list, reverse, IsOk, IfOk, IfErr};
 ghost use Rattle.std.specs.List.{AllPairs};
 ghost use Rattle.ec_count.specs.Tables.{Tables, IsDeclared};
 ghost use Rattle.ec_core.specs.declared.act.Entry.{Entry};
@@ -19,7 +19,7 @@ use crate::critical_sections::CriticalSections;
 use crate::{Pair, SemaphoreShape};
 use ec_core::{Act, Audit, AuditFault, Entry, ListProgress, Run, Tracker, walk};
 use ec_count::SeqId;
-use std::alloc::{AllocError, Global};
+use std::alloc::Global;
 use std::marker::Model;
 
 /// A ticket, and the sequencer that it was drawn from.
@@ -72,23 +72,19 @@ fn note_ticket(kept: &ListProgress, entry: &Entry, latest: &mut [LatestTicket; 1
     pair
 }
 
-/// Adds a pair, if there is one.
-fn add(pairs: &mut Vec<Pair>, pair: Option<Pair>) -> Result<(), AllocError>
-    ensures { OnOk result (pairs.new.items ≡ pairs.old.items ++ option_to_list pair) }
-{
-    if let Some(pair) = pair {
-        pairs.push(pair)?;
-    }
-    Ok(())
-}
-
 /// Adds a pair, if there is one, unless an allocation has failed before. Returns whether one has
 /// failed.
 fn add_fails(out_of_memory: bool, pairs: &mut Vec<Pair>, pair: Option<Pair>) -> bool
     ensures before { result ≡ false → out_of_memory ≡ false }
     ensures pairs { result ≡ false → pairs.new.items ≡ pairs.old.items ++ option_to_list pair }
 {
-    out_of_memory || add(pairs, pair).is_err()
+    if out_of_memory {
+        return true;
+    }
+    match pair {
+        Some(pair) => pairs.push(pair).is_err(),
+        None => false,
+    }
 }
 
 /// The audit of the critical sections of P on two of these semaphores, in a pass over a run. It
@@ -156,9 +152,7 @@ impl<'a> PairAudit<'a> {
         ensures ordered { (t : Tables) (h : List Entry) → EndsAt t (RepresentsPairs self.entry) h → IfOk result (λ ps. AllPairs IsEarlier ps.items) }
         ensures err { (t : Tables) (h : List Entry) → EndsAt t (RepresentsPairs self.entry) h → IfErr result (IsAuditFault (both_rules self.entry.common (is_semaphore_sequencer self.entry.common self.entry.shapes)) h) }
     {
-        if let Err(fault) = self.tracker.finding() {
-            return Err(fault);
-        }
+        self.tracker.finding()?;
         if self.out_of_memory {
             return Err(AuditFault::Memory);
         }

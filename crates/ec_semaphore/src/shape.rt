@@ -84,9 +84,7 @@ pub fn declare_semaphore(
         return Err(SetupFault::TooMany);
     }
     let count = setup.add_fixed_event(users, users)?;
-    let Ok(line) = setup.add_sequencer(users) else {
-        unreachable!()
-    };
+    let line = setup.add_sequencer(users).unwrap();
     Ok(SemaphoreShape {
         count,
         line,

@@ -9,12 +9,6 @@ use crate::SemaphoreShape;
 use ec_core::{Act, ListProgress, Protocol, Reply};
 use ec_count::WorkerId;
 
-/// P and V on a semaphore, as call lists. Of the list that a worker is in, its ticket is kept.
-#[derive(Clone, Copy, Debug)]
-pub(crate) struct Uses {
-    shape: SemaphoreShape,
-}
-
 /// The progress in a list of which no call is completed.
 pub(crate) const NOTHING: ListProgress = ListProgress {
     at: 0,
@@ -22,35 +16,16 @@ pub(crate) const NOTHING: ListProgress = ListProgress {
     second: 0,
 };
 
-impl Uses {
-    pub(crate) fn new(shape: SemaphoreShape) -> Self
-        ensures { result.shape ≡ shape }
-    {
-        Uses { shape }
-    }
-
-    /// Returns the semaphore.
-    #[inline(always)]
-    pub(crate) fn shape(&self) -> &SemaphoreShape
-        ensures { result.now ≡ self.now.shape }
-    {
-        &self.shape
-    }
-}
-
 /// Returns whether an act names the eventcount or the sequencer of a semaphore.
 pub fn is_on(shape: &SemaphoreShape, act: &Act) -> bool
     ensures { result ≡ is_on shape.now act.now }
 {
     match act {
-        Act::Advance(event) => event.get() == shape.count().get(),
-        Act::Read(event) => event.get() == shape.count().get(),
-        Act::Await(event, _) => event.get() == shape.count().get(),
-        Act::Go => false,
-        Act::Ticket(sequencer) => sequencer.get() == shape.line().get(),
-        Act::Put(_, _) => false,
-        Act::Get(_) => false,
-        Act::Hand(event, _) => event.get() == shape.count().get(),
+        Act::Advance(event) | Act::Read(event) | Act::Await(event, _) | Act::Hand(event, _) => {
+            *event == shape.count()
+        }
+        Act::Ticket(sequencer) => *sequencer == shape.line(),
+        Act::Go | Act::Put(_, _) | Act::Get(_) => false,
     }
 }
 
@@ -67,11 +42,12 @@ fn is_threshold(shape: &SemaphoreShape, ticket: u64, total: u64) -> bool
     }
 }
 
-impl Protocol for Uses {
+/// P and V on a semaphore, as call lists. Of the list that a worker is in, its ticket is kept.
+impl Protocol for SemaphoreShape {
     ghost use Rattle.ec_semaphore.specs.Uses.{use_rules};
     ghost use Rattle.ec_semaphore.specs.Keeping.{list_progress_of_use};
 
-    ghost rules = { λ s. use_rules s.shape };
+    ghost rules = { use_rules };
 
     ghost keeps = { λ _. list_progress_of_use };
 
@@ -80,13 +56,12 @@ impl Protocol for Uses {
     }
 
     fn is_right(&self, _worker: WorkerId, kept: &ListProgress, act: &Act) -> bool {
-        if !is_on(&self.shape, act) {
+        if !is_on(self, act) {
             return true;
         }
         match act {
-            Act::Advance(_) => kept.at == 0,
-            Act::Ticket(_) => kept.at == 0,
-            Act::Await(_, total) => kept.at == 1 && is_threshold(&self.shape, kept.first, *total),
+            Act::Advance(_) | Act::Ticket(_) => kept.at == 0,
+            Act::Await(_, total) => kept.at == 1 && is_threshold(self, kept.first, *total),
             _ => false,
         }
     }
@@ -98,12 +73,7 @@ impl Protocol for Uses {
         op: &Act,
         reply: Reply,
     ) -> ListProgress {
-        let number = match reply {
-            Reply::Pending => return *kept,
-            Reply::Done => 0,
-            Reply::Number(number) => number,
-        };
-        if !is_on(&self.shape, op) {
+        if reply.is_pending() || !is_on(self, op) {
             return *kept;
         }
         match op {
@@ -111,7 +81,7 @@ impl Protocol for Uses {
             _ if kept.at > 0 => NOTHING,
             _ => ListProgress {
                 at: 1,
-                first: number,
+                first: reply.number(),
                 second: 0,
             },
         }

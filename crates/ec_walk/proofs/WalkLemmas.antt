@@ -2,12 +2,12 @@
 -- unchanged.
 use Rattle.std.proofs.Common.{◌≡◌, ◌≢◌, ℕ, ◌+◌, ◌<◌, ◌≤◌, Bool, true, false, List, ◌∷◌, length, Some, refl, ap, sym, ◌∙◌, subst, arith, true≢false, cond, ◌==◌, ◌||◌, ◌&&◌, not, leb, ◌⊎◌, inl, inr, Option, None, [], get_or, slice_get, slice_set, below_more}
 use Rattle.std.specs.Option.{option_map_or}
-use Rattle.std.proofs.lemmas.Bool.{eqb-true, eqb-false, eq-eqb}
+use Rattle.std.proofs.lemmas.Bool.{eqb-true, eqb-false, eq-eqb, lt-ltb, le-ltb}
 use Rattle.std.proofs.lemmas.Bool.Decides.{leb_tells}
-use Rattle.std.proofs.lemmas.Option.{slice_get_within, slice_get_cases}
+use Rattle.std.proofs.lemmas.Option.{slice_get_within, slice_get_cases, slice_get-get_or}
 use Rattle.std.proofs.Math.ListN.{length-set}
 use Rattle.ec_core.specs.declared.act.Act.{Act}
-use Rattle.ec_core.specs.declared.act.Act.TheVariants.{Advance, Read, Await, Put, Get, Hand}
+use Rattle.ec_core.specs.declared.act.Act.TheVariants.{Advance, Read, Await, Ticket, Put, Get, Hand}
 use Rattle.ec_core.specs.declared.act.Entry.{Entry}
 use Rattle.ec_core.specs.Calls.{is_intermediate}
 use Rattle.ec_core.proofs.shared.Following.{op_at}
@@ -15,7 +15,8 @@ use Rattle.ec_core.proofs.shared.Places.{get_set}
 use Rattle.ec_heading.specs.declared.group.Group.{Group}
 use Rattle.ec_heading.specs.declared.group.Group.TheVariants as groups
 use Rattle.ec_walk.specs.declared.group_table.Span.{Span}
-use Rattle.ec_walk.specs.Walks.{names, sees_every_call, is_on, is_wide_at, is_on_at, is_asked_at, passes_at, CoversFirst, Covers, CoversAct, CoversAt, Dispatches, DispatchesWhere, DispatchesTo, DispatchesAt, DispatchesAmong, DispatchesOn, goes_to, IsDispatched, AreHanded, AreIndependent}
+use Rattle.ec_walk.specs.declared.group_table.GroupTable.{GroupTable}
+use Rattle.ec_walk.specs.Walks.{names, sees_every_call, act_on, is_on, is_on_at, is_asked_at, passes_at, CoversFirst, Covers, CoversAct, CoversAt, IsTable, Dispatches, DispatchesWhere, DispatchesTo, DispatchesAmong, DispatchesOn, goes_to, IsDispatched, AreHanded, AreIndependent}
 
 -- THE TABLE
 
@@ -67,26 +68,22 @@ covers_off gs test span n g c is off = record {
   highest = c.highest;
 }
 
-pub covers_all : (gs : List Group) (test : Group → Bool) (span : Span) (n : ℕ)
-    → CoversFirst gs test span n → length gs ≤ n → Covers gs test span
-covers_all gs test span n c all = record {
-  among = λ i g at on. (let less : i < length gs = slice_get_within gs i g at in c.among i (omega arith) g at on);
-  lowest = c.lowest;
-  highest = c.highest;
-}
-
--- the span at a position of a table, for an act that is on the same groups
-pub covers_at : (gs : List Group) (act read : Act) (spans : List Span) (place : ℕ) (span : Span)
-    → CoversAt gs read spans place → slice_get spans place ≡ Some span
-    → ((g : Group) → names g act ≡ names g read) → CoversAct gs act span
-covers_at gs act read spans place span c at same = record {
-  among = λ i g is on. was.among i g is (sym (same g) ∙ on);
+-- the span of an object, for an act that is on the same groups
+pub covers_at : (gs : List Group) (table : GroupTable) (act read : Act) (n : ℕ) (any : Span)
+    → IsTable gs table → n < 320 → n < length table.objects → act_on n ≡ read
+    → ((g : Group) → names g act ≡ names g read) → CoversAct gs act (get_or table.objects n any)
+covers_at gs table act read n any t less room is same = record {
+  among = λ i less g is on. was.among i less g is (sym (same g) ∙ on);
+  within = was.within;
   lowest = λ some. over (slice_get gs span.first) (was.lowest some);
   highest = λ i is. over (slice_get gs i) (was.highest i is);
 }
   where
+    span : Span
+    span = get_or table.objects n any
+
     was : CoversAct gs read span
-    was = c span at
+    was = subst (λ a. CoversAct gs a span) is (t.objects n less span (slice_get-get_or table.objects n any room))
 
     over : (o : Option Group) → option_map_or (λ g. names g read) o false ≡ true → option_map_or (λ g. names g act) o false ≡ true
     over None on = on
@@ -115,34 +112,48 @@ covers_more gs acts spans n span room before here =
     own : cond (n == n) (Some span) (slice_get spans n) ≡ Some span
     own = rw (eq-eqb n n refl) refl
 
-pub on_advance : (e : ℕ) (g : Group) → names g (Advance e) ≡ names g (Read e)
-on_advance e (groups.Buffer b) = refl
-on_advance e (groups.Database d) = refl
-on_advance e (groups.Semaphore s) = refl
-on_advance e (groups.Both s) = refl
+-- an act on an eventcount names the groups that a read of it names
+same_event : (g : Group) (e : ℕ) → (names g (Advance e) ≡ names g (Read e))
+    × ((v : ℕ) → names g (Await e v) ≡ names g (Read e))
+    × ((b : ℕ) → names g (Hand e b) ≡ names g (Read e))
+same_event (groups.Buffer s) e = (refl, λ v. refl, λ b. refl)
+same_event (groups.Database s) e = (refl, λ v. refl, λ b. refl)
+same_event (groups.Semaphore s) e = (refl, λ v. refl, λ b. refl)
+same_event (groups.Both s) e = (refl, λ v. refl, λ b. refl)
 
-pub on_await : (e v : ℕ) (g : Group) → names g (Await e v) ≡ names g (Read e)
-on_await e v (groups.Buffer b) = refl
-on_await e v (groups.Database d) = refl
-on_await e v (groups.Semaphore s) = refl
-on_await e v (groups.Both s) = refl
+pub on_event : (e : ℕ) (act : Act) (g : Group) → (act ≡ Advance e) ⊎ ((act ≡ Read e) ⊎ (((v : ℕ) × (act ≡ Await e v)) ⊎ ((b : ℕ) × (act ≡ Hand e b))))
+    → names g act ≡ names g (Read e)
+on_event e act g (inl is) = ap (names g) is ∙ (same_event g e).0
+on_event e act g (inr (inl is)) = ap (names g) is
+on_event e act g (inr (inr (inl is))) = ap (names g) is.1 ∙ (same_event g e).1 is.0
+on_event e act g (inr (inr (inr is))) = ap (names g) is.1 ∙ (same_event g e).2 is.0
 
-pub on_hand : (e b : ℕ) (g : Group) → names g (Hand e b) ≡ names g (Read e)
-on_hand e b (groups.Buffer s) = refl
-on_hand e b (groups.Database d) = refl
-on_hand e b (groups.Semaphore s) = refl
-on_hand e b (groups.Both s) = refl
+-- a put names the groups that a get of its cell names
+same_cell : (g : Group) (y v : ℕ) → names g (Put y v) ≡ names g (Get y)
+same_cell (groups.Buffer s) y v = refl
+same_cell (groups.Database s) y v = refl
+same_cell (groups.Semaphore s) y v = refl
+same_cell (groups.Both s) y v = refl
 
-pub on_put : (y v : ℕ) (g : Group) → names g (Put y v) ≡ names g (Get y)
-on_put y v (groups.Buffer b) = refl
-on_put y v (groups.Database d) = refl
-on_put y v (groups.Semaphore s) = refl
-on_put y v (groups.Both s) = refl
+pub on_cell : (y : ℕ) (act : Act) (g : Group) → ((v : ℕ) × (act ≡ Put y v)) ⊎ (act ≡ Get y)
+    → names g act ≡ names g (Get y)
+on_cell y act g (inl is) = ap (names g) is.1 ∙ same_cell g y is.0
+on_cell y act g (inr is) = ap (names g) is
+
+-- the objects by number
+pub event_at : (n : ℕ) → n < 32 → act_on n ≡ Read n
+event_at n less = rw (lt-ltb n 32 less) refl
+
+pub sequencer_at : (n : ℕ) → n < 32 → act_on (32 + n) ≡ Ticket n
+sequencer_at n less = rw (le-ltb (32 + n) 32 (omega arith), lt-ltb (32 + n) 64 (omega arith)) (ap Ticket (omega arith))
+
+pub cell_at : (n : ℕ) → act_on (64 + n) ≡ Get n
+cell_at n = rw (le-ltb (64 + n) 32 (omega arith), le-ltb (64 + n) 64 (omega arith)) (ap Get (omega arith))
 
 -- WHICH GROUPS ARE ASKED
 
 -- a group that an act names, and that is not wide
-pub asked_named : (gs : List Group) (op : Act) (i : ℕ) → passes_at gs (λ g. names g op) i ≡ true → is_wide_at gs i ≡ false → is_asked_at gs false op i ≡ true
+pub asked_named : (gs : List Group) (op : Act) (i : ℕ) → passes_at gs (λ g. names g op) i ≡ true → passes_at gs sees_every_call i ≡ false → is_asked_at gs false op i ≡ true
 asked_named gs op i = go (slice_get gs i)
   where
     go : (o : Option Group) → option_map_or (λ g. names g op) o false ≡ true → option_map_or sees_every_call o false ≡ false → option_map_or (λ g. not (sees_every_call g) && names g op) o false ≡ true
@@ -150,7 +161,7 @@ asked_named gs op i = go (slice_get gs i)
     go (Some g) on narrow = ap (λ b. not b && names g op) narrow ∙ on
 
 -- a wide group is only selected as such
-pub asked_once : (gs : List Group) (op : Act) (i : ℕ) → is_wide_at gs i ≡ true
+pub asked_once : (gs : List Group) (op : Act) (i : ℕ) → passes_at gs sees_every_call i ≡ true
     → is_asked_at gs false op i ≡ true → ⊥
 asked_once gs op i = go (slice_get gs i)
   where
@@ -172,7 +183,7 @@ asked_is_on gs op i = go (slice_get gs i)
     go None on = on
     go (Some g) on = by (sees_every_call g) (names g op) on
 
-pub wide_is_on : (gs : List Group) (op : Act) (i : ℕ) → is_wide_at gs i ≡ true
+pub wide_is_on : (gs : List Group) (op : Act) (i : ℕ) → passes_at gs sees_every_call i ≡ true
     → is_on_at gs op i ≡ true
 wide_is_on gs op i = go (slice_get gs i)
   where
@@ -194,10 +205,10 @@ on_is_asked gs op named wide i covers wides on one other = by_group (slice_get_c
     by_group (inl (g, less, here, same)) = by_width (sees_every_call g) refl
       where
         by_width : (b : Bool) → sees_every_call g ≡ b → ⊥
-        by_width true w = (let in_span = wides.among i g here w in other (in_span.0, in_span.1, ap (λ o. option_map_or sees_every_call o false) here ∙ w))
+        by_width true w = (let in_span = wides.among i less g here w in other (in_span.0, in_span.1, ap (λ o. option_map_or sees_every_call o false) here ∙ w))
         by_width false w =
             (let named_here : names g op ≡ true = sym (ap (λ b. b || names g op) w) ∙ sym (ap (λ o. option_map_or (λ h. is_on h op) o false) here) ∙ on in
-            let in_span = covers.among i g here named_here in
+            let in_span = covers.among i less g here named_here in
             one (in_span.0, in_span.1, asked_named gs op i (ap (λ o. option_map_or (λ h. names h op) o false) here ∙ named_here) (ap (λ o. option_map_or sees_every_call o false) here ∙ w)))
 
 -- WHICH AUDITS ARE PASSED AN ENTRY
@@ -268,10 +279,11 @@ module _ {A : Type 0} (represents : A → A → List Entry
   -- one more number
   pub hands_more : (gs : List Group) (wide : Bool) (first n : ℕ) (old now new : List A) → first ≤ n
       → DispatchesAmong represents gs wide first n place op x old now
-      → DispatchesAt represents gs wide n place op x now new
+      → ((is_asked_at gs wide op n ≡ true) × DispatchesTo represents n place op x now new)
+      ⊎ ((is_asked_at gs wide op n ≡ false) × (new ≡ now))
       → DispatchesAmong represents gs wide first (n + 1) place op x old new
-  hands_more gs wide first n old now new from =
-      hands_then (λ i. (first ≤ i) × (i < n) × (is_asked_at gs wide op i ≡ true)) (λ i. (i ≡ n) × (is_asked_at gs wide op i ≡ true))
+  hands_more gs wide first n old now new from before here =
+      hands_then (λ i. (first ≤ i) × (i < n) × (is_asked_at gs wide op i ≡ true)) Here
       (λ i. (first ≤ i) × (i < n + 1) × (is_asked_at gs wide op i ≡ true)) old now new
       (λ i p q. (let less : i < n = p.1 in let here : i ≡ n = q.0 in omega arith))
       (λ i p. (let less : i < n = p.1 in (p.0, omega arith, p.2)))
@@ -280,7 +292,18 @@ module _ {A : Type 0} (represents : A → A → List Entry
       elim (i == n) as (λ t. (i == n) ≡ t → ⊥) [
         | true ↦ λ e. not_here (eqb-true i n e, r.2)
         | false ↦ λ e. (let other : i ≢ n = eqb-false i n e in let less : i < n + 1 = r.1 in no_earlier (r.0, omega arith, r.2))
-      ] refl)
+      ] refl) before (by here)
+    where
+      Here : ℕ → Type 0
+      Here i = (i ≡ n) × (is_asked_at gs wide op i ≡ true)
+
+      by : ((is_asked_at gs wide op n ≡ true) × DispatchesTo represents n place op x now new)
+          ⊎ ((is_asked_at gs wide op n ≡ false) × (new ≡ now))
+          → DispatchesWhere represents Here place op x now new
+      by (inl p) = hands_same (λ i. i ≡ n) Here now new (λ i same. (same, ap (is_asked_at gs wide op) same ∙ p.0)) (λ i q. q.0) p.1
+      by (inr p) =
+          subst (λ l. DispatchesWhere represents Here place op x now l) (sym p.1)
+          (hands_nobody Here now (λ i less q. true≢false (sym q.1 ∙ ap (is_asked_at gs wide op) q.0 ∙ p.0)))
 
   -- up to the end, or none if that is before the first
   pub hands_all : (gs : List Group) (wide : Bool) (first end n : ℕ) (old new : List A) → end ≤ n
@@ -303,7 +326,7 @@ module _ {A : Type 0} (represents : A → A → List Entry
 
   -- the one that is named
   pub hands_named : (gs : List Group) (named : Span) (old new : List A) → CoversAct gs op named
-      → named.end ≡ named.first + 1 → is_wide_at gs named.first ≡ false
+      → named.end ≡ named.first + 1 → passes_at gs sees_every_call named.first ≡ false
       → DispatchesTo represents named.first place op x old new
       → DispatchesAmong represents gs false named.first named.end place op x old new
   hands_named gs named old new covers one narrow =
@@ -313,7 +336,7 @@ module _ {A : Type 0} (represents : A → A → List Entry
 
   -- it is wide
   pub hands_wide : (gs : List Group) (named : Span) (old : List A) → named.end ≡ named.first + 1
-      → is_wide_at gs named.first ≡ true
+      → passes_at gs sees_every_call named.first ≡ true
       → DispatchesAmong represents gs false named.first named.end place op x old old
   hands_wide gs named old one wide =
       hands_nobody (λ i. (named.first ≤ i) × (i < named.end) × (is_asked_at gs false op i ≡ true)) old
@@ -321,7 +344,7 @@ module _ {A : Type 0} (represents : A → A → List Entry
       (let from : named.first ≤ i = q.0 in
       let before : i < named.end = q.1 in
       let same : i ≡ named.first = omega arith in
-      asked_once gs op i (ap (is_wide_at gs) same ∙ wide) q.2))
+      asked_once gs op i (ap (passes_at gs sees_every_call) same ∙ wide) q.2))
 
   -- those that are named, and then the wide ones
   pub hands_both : (gs : List Group) (named wide : Span) (old mid new : List A)

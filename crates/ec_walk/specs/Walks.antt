@@ -1,5 +1,5 @@
 -- One pass over the entries of a run, for the audits of all groups.
-use Rattle.std.specs.Prelude.{◌≡◌, ◌⊎◌, ℕ, ◌+◌, ◌<◌, ◌≤◌, Bool, true, false, ◌||◌, ◌&&◌, not, List, [], ◌∷◌, length, Some, slice_get}
+use Rattle.std.specs.Prelude.{◌≡◌, ◌⊎◌, ℕ, ◌+◌, ◌-◌, ◌<◌, ◌≤◌, nat_lt, if◌then◌else◌, Bool, true, false, ◌||◌, ◌&&◌, not, List, [], ◌∷◌, length, Some, slice_get}
 use Rattle.std.specs.Option.{option_map_or}
 use Rattle.ec_core.specs.declared.act.Act.{Act}
 use Rattle.ec_core.specs.declared.act.Act.TheVariants.{Read, Ticket, Get}
@@ -39,10 +39,6 @@ is_on g act = sees_every_call g || names g act
 abbrev pub passes_at : List Group → (Group → Bool) → ℕ → Bool
 passes_at gs test i = option_map_or test (slice_get gs i) false
 
--- whether it is wide
-abbrev pub is_wide_at : List Group → ℕ → Bool
-is_wide_at gs i = passes_at gs sees_every_call i
-
 -- whether a call that an act begins is on it
 abbrev pub is_on_at : List Group → Act → ℕ → Bool
 is_on_at gs act i = passes_at gs (λ g. is_on g act) i
@@ -50,7 +46,7 @@ is_on_at gs act i = passes_at gs (λ g. is_on g act) i
 -- whether it is selected: whether it is wide, if the flag is true; otherwise whether it is another
 -- of which the act names an object
 abbrev pub is_asked_at : List Group → Bool → Act → ℕ → Bool
-is_asked_at gs true act i = is_wide_at gs i
+is_asked_at gs true act i = passes_at gs sees_every_call i
 is_asked_at gs false act i = passes_at gs (λ g. not (sees_every_call g) && names g act) i
 
 -- THE TABLE
@@ -65,11 +61,8 @@ pub record CoversFirst (gs : List Group) (test : Group → Bool) (span : Span) (
   pub highest : (i : ℕ) → span.end ≡ i + 1 → passes_at gs test i ≡ true
 
 -- the least span of the groups that pass a test
-pub record Covers (gs : List Group) (test : Group → Bool) (span : Span) : Type 0 where
-  pub among : (i : ℕ) (g : Group) → slice_get gs i ≡ Some g → test g ≡ true
-      → (span.first ≤ i) × (i < span.end)
-  pub lowest : span.first < span.end → passes_at gs test span.first ≡ true
-  pub highest : (i : ℕ) → span.end ≡ i + 1 → passes_at gs test i ≡ true
+abbrev pub Covers : List Group → (Group → Bool) → Span → Type 0
+Covers gs test span = CoversFirst gs test span (length gs)
 
 -- the least span of the groups of which an act names an object
 abbrev pub CoversAct : List Group → Act → Span → Type 0
@@ -79,11 +72,13 @@ CoversAct gs act span = Covers gs (λ g. names g act) span
 abbrev pub CoversAt : List Group → Act → List Span → ℕ → Type 0
 CoversAt gs act spans place = (span : Span) → slice_get spans place ≡ Some span → CoversAct gs act span
 
+-- an act on the object with this number: eventcounts first, then sequencers, then cells
+abbrev pub act_on : ℕ → Act
+act_on n = if nat_lt n 32 then Read n else if nat_lt n 64 then Ticket (n - 32) else Get (n - 64)
+
 -- the least span of the groups of each object, and that of the wide groups
 pub record IsTable (gs : List Group) (table : GroupTable) : Type 0 where
-  pub events : (e : ℕ) → e < 32 → CoversAt gs (Read e) table.events e
-  pub sequencers : (q : ℕ) → q < 32 → CoversAt gs (Ticket q) table.sequencers q
-  pub cells : (x : ℕ) → x < 256 → CoversAt gs (Get x) table.cells x
+  pub objects : (n : ℕ) → n < 320 → CoversAt gs (act_on n) table.objects n
   pub wide : Covers gs sees_every_call table.wide
 
 -- THE AUDITS. `represents start now past` says that an audit is now after the reversed history
@@ -109,16 +104,7 @@ DispatchesWhere {A} represents IsPicked place op x old new = (length new ≡ len
 abbrev pub DispatchesTo : {A : Type 0} → (A → A → List Entry → Type 0) → ℕ → ℕ → Act → Entry
     → List A
     → List A → Type 0
-DispatchesTo represents number place op x old new =
-    DispatchesWhere represents (λ i. i ≡ number) place op x old new
-
--- only the audit with this number has processed it, if its group is selected
-abbrev pub DispatchesAt : {A : Type 0} → (A → A → List Entry → Type 0) → List Group → Bool → ℕ → ℕ
-    → Act
-    → Entry → List A → List A → Type 0
-DispatchesAt represents gs wide number place op x old new =
-    DispatchesWhere represents (λ i. (i ≡ number)
-    × (is_asked_at gs wide op i ≡ true)) place op x old new
+DispatchesTo represents number = DispatchesWhere represents (λ i. i ≡ number)
 
 -- exactly the audits of the selected groups from `first` on, before `end`, have processed it
 abbrev pub DispatchesAmong : {A : Type 0} → (A → A → List Entry → Type 0) → List Group → Bool → ℕ
@@ -140,18 +126,13 @@ abbrev pub goes_to : List Group → ℕ → Entry → List Entry → Bool
 goes_to gs i x past =
     not (is_intermediate x) && is_on_at gs (opening_act x.act (under_way x.worker past)) i
 
--- an audit has processed an entry after past
-abbrev pub DispatchesNext : {A : Type 0} → (A → A → List Entry → Type 0) → Entry → List Entry → A → A → Type 0
-DispatchesNext represents x past old new =
-    Dispatches represents (length past) (opening_act x.act (under_way x.worker past)) x old new
-
 -- an audit, which was start, is now after it was passed exactly the entries of past that are picked
 abbrev pub IsDispatched : {A : Type 0} → (A → A → List Entry → Type 0) → (Entry → List Entry → Bool)
     → A
     → A → List Entry → Type 0
 IsDispatched represents picks start now [] = now ≡ start
 IsDispatched {A} represents picks start now (x ∷ past) = (before : A) × IsDispatched represents picks start before past
-    × (((picks x past ≡ true) × DispatchesNext represents x past before now)
+    × (((picks x past ≡ true) × Dispatches represents (length past) (opening_act x.act (under_way x.worker past)) x before now)
     ⊎ ((picks x past ≡ false) × (now ≡ before)))
 
 -- each audit of a list was passed exactly the entries whose calls are on its own group, except the

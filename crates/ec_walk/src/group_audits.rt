@@ -4,7 +4,7 @@ ghost use Rattle.ec_core.specs.declared.act.Entry.{Entry};
 ghost use Rattle.ec_core.specs.Calls.{under_way, is_intermediate};
 ghost use Rattle.ec_core.specs.Following.{opening_act};
 ghost use Rattle.ec_heading.specs.declared.group.Group.{Group};
-ghost use Rattle.ec_walk.specs.Walks.{is_on, sees_every_call, is_wide_at, is_asked_at, Covers, CoversAct, DispatchesTo, DispatchesAt, DispatchesAmong, DispatchesOn, AreIndependent, AreHanded, IsTable};
+ghost use Rattle.ec_walk.specs.Walks.{is_on, sees_every_call, passes_at, is_asked_at, Covers, CoversAct, DispatchesTo, DispatchesAmong, DispatchesOn, AreIndependent, AreHanded, IsTable};
 
 use crate::group_table::{GroupTable, Span, names, sees_every_call};
 use ec_core::{Act, Audit, Entry, Reply, Run, walk};
@@ -61,7 +61,7 @@ fn is_intermediate(entry: &Entry) -> bool
 #[inline(always)]
 fn is_wide_at(groups: &[Group], among: Span, number: usize) -> bool
     requires { Covers groups.now sees_every_call among }
-    ensures { result ≡ is_wide_at groups.now number }
+    ensures { result ≡ passes_at groups.now sees_every_call number }
 {
     if number < among.first || among.end <= number {
         return false;
@@ -100,28 +100,8 @@ fn dispatch_to<A: Audit>(audits: &mut [A], number: usize, place: usize, op: &Act
     }
 }
 
-/// Passes an entry to the audit of the group with this number, if `is_asked_at` selects the group.
-fn dispatch_at<A: Audit>(
-    groups: &[Group],
-    audits: &mut [A],
-    among: Span,
-    wide: bool,
-    number: usize,
-    place: usize,
-    op: &Act,
-    entry: &Entry,
-)
-    requires place { place + 1 < 2 ^ 64 }
-    requires among { Covers groups.now sees_every_call among }
-    ensures { DispatchesAt A.represents groups.now wide number place op.now entry.now audits.old
-        audits.new }
-{
-    if is_asked_at(groups, among, wide, op, number) {
-        dispatch_to(audits, number, place, op, entry);
-    }
-}
-
 /// Passes an entry to the audits of the groups of a span that `is_asked_at` selects.
+#[inline(never)]
 fn dispatch_among<A: Audit>(
     groups: &[Group],
     audits: &mut [A],
@@ -139,40 +119,17 @@ fn dispatch_among<A: Audit>(
         audits.old audits.new }
 {
     for number in span.first..span.end {
-        dispatch_at(groups, audits, among, wide, number, place, op, entry);
+        if is_asked_at(groups, among, wide, op, number) {
+            dispatch_to(audits, number, place, op, entry);
+        }
     }
-}
-
-/// Passes an entry to the audit of the one group of which its call names an object, if that is not
-/// wide.
-///
-/// All wide groups are in the span `among`.
-#[inline(always)]
-fn dispatch_one<A: Audit>(
-    groups: &[Group],
-    audits: &mut [A],
-    named: Span,
-    among: Span,
-    place: usize,
-    op: &Act,
-    entry: &Entry,
-)
-    requires place { place + 1 < 2 ^ 64 }
-    requires among { Covers groups.now sees_every_call among }
-    requires named { CoversAct groups.now op.now named }
-    requires one { named.end ≡ named.first + 1 }
-    ensures { DispatchesAmong A.represents groups.now false named.first named.end place op.now
-        entry.now
-        audits.old audits.new }
-{
-    if is_wide_at(groups, among, named.first) {
-        return;
-    }
-    dispatch_to(audits, named.first, place, op, entry);
 }
 
 /// Passes an entry to the audits of the groups of which its call names an object, except the wide
 /// ones.
+///
+/// Usually it is one group.
+#[inline(always)]
 fn dispatch_named<A: Audit>(
     groups: &[Group],
     audits: &mut [A],
@@ -189,38 +146,15 @@ fn dispatch_named<A: Audit>(
         entry.now
         audits.old audits.new }
 {
-    if named.is_one() {
-        dispatch_one(groups, audits, named, wide, place, op, entry);
-        return;
+    if !named.is_one() {
+        dispatch_among(groups, audits, wide, false, named, place, op, entry);
+    } else if !is_wide_at(groups, wide, named.first) {
+        dispatch_to(audits, named.first, place, op, entry);
     }
-    dispatch_among(groups, audits, wide, false, named, place, op, entry);
 }
 
 /// Passes an entry to the audits of the groups that its call is on: those of which it names an
 /// object, then the wide ones.
-#[inline(never)]
-fn dispatch_each<A: Audit>(
-    groups: &[Group],
-    audits: &mut [A],
-    named: Span,
-    wide: Span,
-    place: usize,
-    op: &Act,
-    entry: &Entry,
-)
-    requires place { place + 1 < 2 ^ 64 }
-    requires named { CoversAct groups.now op.now named }
-    requires wide { Covers groups.now sees_every_call wide }
-    ensures { DispatchesOn A.represents groups.now place op.now entry.now audits.old audits.new }
-{
-    dispatch_named(groups, audits, named, wide, place, op, entry);
-    dispatch_among(groups, audits, wide, true, wide, place, op, entry);
-}
-
-/// Passes an entry to the same audits as `dispatch_each`, faster if it names one group and none is
-/// wide.
-///
-/// That is the usual case.
 #[inline(always)]
 fn dispatch_all<A: Audit>(
     groups: &[Group],
@@ -236,11 +170,10 @@ fn dispatch_all<A: Audit>(
     requires wide { Covers groups.now sees_every_call wide }
     ensures { DispatchesOn A.represents groups.now place op.now entry.now audits.old audits.new }
 {
-    if wide.is_empty() && named.is_one() {
-        dispatch_one(groups, audits, named, wide, place, op, entry);
-        return;
+    dispatch_named(groups, audits, named, wide, place, op, entry);
+    if !wide.is_empty() {
+        dispatch_among(groups, audits, wide, true, wide, place, op, entry);
     }
-    dispatch_each(groups, audits, named, wide, place, op, entry);
 }
 
 impl<'a, A: GroupAudit> GroupAudits<'a, A> {

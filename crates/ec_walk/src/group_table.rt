@@ -1,11 +1,10 @@
 //! Which groups an act may be on, found by the object that it names.
 ghost use Rattle.std.specs.Prelude.{◌≡◌, ◌≢◌, ℕ, ◌+◌, ◌<◌, ◌≤◌, ◌^◌, Bool, false, IsTrue, List, length, Some, slice_get};
-ghost use Rattle.ec_core.specs.declared.act.Act.TheVariants.{Read, Ticket, Get};
 ghost use Rattle.ec_heading.specs.declared.group.Group.{Group};
-ghost use Rattle.ec_walk.specs.Walks.{names, sees_every_call, CoversFirst, Covers, CoversAct, CoversAt, IsTable};
+ghost use Rattle.ec_walk.specs.Walks.{names, sees_every_call, act_on, CoversFirst, Covers, CoversAct, CoversAt, IsTable};
 
 use ec_core::Act;
-use ec_count::{CellId, EventId, SeqId};
+use ec_count::{CellId, EventId, SeqId, filled};
 use ec_heading::Group;
 
 /// Groups whose numbers follow one another: from `first` on, before `end`.
@@ -41,16 +40,14 @@ const NOWHERE: Span = Span {
     end: 0,
 };
 
-/// The least span of the groups of each eventcount, sequencer and cell, and that of the wide
+/// The least span of the groups of each object, as `act_on` numbers them, and that of the wide
 /// groups.
 ///
 /// In a header each span has at most one group: its groups share no object, and at most one is a
 /// `both`.
 #[derive(Drop)]
 pub(crate) struct GroupTable {
-    events: [Span; 32],
-    sequencers: [Span; 32],
-    cells: [Span; 256],
+    objects: [Span; 320],
     wide: Span,
 }
 
@@ -121,85 +118,29 @@ fn wide_span(groups: &[Group]) -> Span
     span
 }
 
-/// Returns the least span of the groups of an eventcount.
-fn event_span(groups: &[Group], number: usize) -> Span
-    requires { number < 32 }
-    ensures { CoversAct groups.now (Read number) result }
+/// Returns an act on the object with this number: eventcounts first, then sequencers, then cells.
+fn act_on(object: usize) -> Act
+    requires { object < 320 }
+    ensures { result ≡ act_on object }
 {
-    match EventId::new(number) {
-        Some(event) => span_of(groups, &Act::Read(event)),
-        None => NOWHERE,
+    if object < 32 {
+        Act::Read(EventId::new(object).unwrap())
+    } else if object < 64 {
+        Act::Ticket(SeqId::new(object - 32).unwrap())
+    } else {
+        Act::Get(CellId::new(object - 64).unwrap())
     }
 }
 
-/// Returns the least span of the groups of each eventcount.
-fn event_groups(groups: &[Group]) -> [Span; 32]
-    ensures { (e : ℕ) → e < 32 → CoversAt groups.now (Read e) result e }
+/// Returns the least span of the groups of each object.
+fn object_spans(groups: &[Group]) -> [Span; 320]
+    ensures { (n : ℕ) → n < 320 → CoversAt groups.now (act_on n) result n }
 {
-    let mut spans = [NOWHERE; 32];
-    for number in 0..32 {
-        spans[number] = event_span(groups, number);
-    }
-    spans
-}
-
-/// Returns the least span of the groups of a sequencer.
-fn sequencer_span(groups: &[Group], number: usize) -> Span
-    requires { number < 32 }
-    ensures { CoversAct groups.now (Ticket number) result }
-{
-    match SeqId::new(number) {
-        Some(sequencer) => span_of(groups, &Act::Ticket(sequencer)),
-        None => NOWHERE,
-    }
-}
-
-/// Returns the least span of the groups of each sequencer.
-fn sequencers_of(groups: &[Group]) -> [Span; 32]
-    ensures { (q : ℕ) → q < 32 → CoversAt groups.now (Ticket q) result q }
-{
-    let mut spans = [NOWHERE; 32];
-    for number in 0..32 {
-        spans[number] = sequencer_span(groups, number);
+    let mut spans = filled(NOWHERE);
+    for object in 0..320 {
+        spans[object] = span_of(groups, &act_on(object));
     }
     spans
-}
-
-/// Returns the least span of the groups of a cell.
-fn cell_span(groups: &[Group], number: usize) -> Span
-    requires { number < 256 }
-    ensures { CoversAct groups.now (Get number) result }
-{
-    match CellId::new(number) {
-        Some(cell) => span_of(groups, &Act::Get(cell)),
-        None => NOWHERE,
-    }
-}
-
-/// Returns an empty span for each cell.
-fn nowhere() -> [Span; 256]
-    ensures { length result ≡ 256 }
-{
-    [NOWHERE; 256]
-}
-
-/// Returns the least span of the groups of each cell.
-fn cell_groups(groups: &[Group]) -> [Span; 256]
-    ensures { (x : ℕ) → x < 256 → CoversAt groups.now (Get x) result x }
-{
-    let mut spans = nowhere();
-    for number in 0..256 {
-        spans[number] = cell_span(groups, number);
-    }
-    spans
-}
-
-/// Returns the span with this number.
-fn at(spans: &[Span], number: usize) -> Span
-    requires { number < length spans.now }
-    ensures { slice_get spans.now number ≡ Some result }
-{
-    spans[number]
 }
 
 impl GroupTable {
@@ -207,9 +148,7 @@ impl GroupTable {
         ensures { IsTable groups.now result }
     {
         GroupTable {
-            events: event_groups(groups),
-            sequencers: sequencers_of(groups),
-            cells: cell_groups(groups),
+            objects: object_spans(groups),
             wide: wide_span(groups),
         }
     }
@@ -220,14 +159,11 @@ impl GroupTable {
         ensures { (groups : List Group) → IsTable groups self.now → CoversAct groups act.now result }
     {
         match act {
-            Act::Advance(event) => at(&self.events, event.get()),
-            Act::Read(event) => at(&self.events, event.get()),
-            Act::Await(event, _) => at(&self.events, event.get()),
+            Act::Advance(event) | Act::Read(event) | Act::Await(event, _) | Act::Hand(event, _) =>
+                self.objects[event.get()],
             Act::Go => NOWHERE,
-            Act::Ticket(sequencer) => at(&self.sequencers, sequencer.get()),
-            Act::Put(cell, _) => at(&self.cells, cell.get()),
-            Act::Get(cell) => at(&self.cells, cell.get()),
-            Act::Hand(event, _) => at(&self.events, event.get()),
+            Act::Ticket(sequencer) => self.objects[32 + sequencer.get()],
+            Act::Put(cell, _) | Act::Get(cell) => self.objects[64 + cell.get()],
         }
     }
 

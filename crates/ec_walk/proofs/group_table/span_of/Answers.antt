@@ -1,7 +1,6 @@
-use Rattle.std.proofs.Common.{refl, arith}
+use Rattle.std.proofs.Common.{refl, subst, arith}
 use Rattle.std.proofs.lemmas.Option.{slice_get_read}
-use Rattle.ec_walk.specs.Walks.{names}
-use Rattle.ec_walk.proofs.WalkLemmas.{covers_all}
+use Rattle.ec_walk.specs.Walks.{names, CoversFirst}
 use Rattle.ec_walk.proofs.group_table.span_of.Goals as goal
 
 pub loop-number-preserved : goal.loop-number-preserved
@@ -11,4 +10,4 @@ loop-number-preserved c =
     c.loop-number.invariant
 
 pub returns : goal.returns
-returns c = covers_all c.args.groups.now (λ g. names g c.args.act.now) c.loop-number.span c.loop-number.number c.loop-number.invariant (omega arith)
+returns c = subst (CoversFirst c.args.groups.now (λ g. names g c.args.act.now) c.loop-number.span) (omega arith) c.loop-number.invariant

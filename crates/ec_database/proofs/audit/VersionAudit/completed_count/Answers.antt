@@ -9,5 +9,5 @@ pub returns : goal.returns
 returns c = λ past is.
     (let inside =
     subst (λ (z : VersionAuditModel). RepresentsVersions z past) (sym c.self.view_is) is in
-    ap (λ (k : ListProgress). k.at) (c.list_progress-kept.ensures _ _ past inside.tracked)
+    ap (λ (k : ListProgress). k.at) (c.list_progress.ensures _ _ past inside.tracked)
     ∙ ap (λ (z : VersionAuditModel). length (block (database_rules z.setup z.shape c.args.worker) c.args.worker past)) c.self.view_is)

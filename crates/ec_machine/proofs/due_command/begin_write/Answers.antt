@@ -1,5 +1,0 @@
-use Rattle.ec_machine.proofs.FirstCalls.{all_small}
-use Rattle.ec_machine.proofs.due_command.begin_write.Goals as goal
-
-pub new-write-requires-clause-small : goal.new-write-requires-clause-small
-new-write-requires-clause-small c = rw c.values_of.ensures.items (all_small _ _ c.requires.small)
