@@ -6,3 +6,4 @@ pub mod Drawing
 pub mod Settling
 pub mod Beginnings
 mod Placing
+pub mod Finding
