@@ -16,7 +16,6 @@ use Rattle.calls_core.specs.declared.history.Event.{Event}
 use Rattle.calls_core.specs.declared.history.Call.{Call}
 use Rattle.calls_counts.specs.declared.fault.Fault.{Fault}
 use Rattle.calls_counts.specs.declared.state.Slot.{Slot}
-use Rattle.calls_counts.specs.declared.state.NotedCall.{NotedCall}
 use Rattle.calls_counts.specs.declared.state.PlacedRead.{PlacedRead}
 use Rattle.calls_counts.specs.declared.scan.Scan.{Scan}
 use Rattle.calls_core.specs.Histories.{clock, completion, pending_calls, completed_calls}
@@ -27,9 +26,10 @@ use Rattle.calls_core.specs.Beginnings.{past_at}
 use Rattle.calls_core.specs.Outcomes.{IsOrderOf, HasOrderOf}
 use Rattle.calls_core.specs.Lists.{Each, EachFrom, EachPair}
 use Rattle.calls_core.proofs.Lists.{each_append}
+use Rattle.calls_core.specs.declared.pending.NotedCall.{NotedCall}
+use Rattle.calls_core.specs.Pending.{noted_calls}
 use Rattle.calls_counts.specs.Faults.{is_advance, invokes_advance, Shows}
 use Rattle.calls_counts.specs.Orders.{order_from, IsOrdering}
-use Rattle.calls_counts.specs.ScanStates.{noted_calls}
 use Rattle.calls_counts.specs.Scanning.{FreeBelow, slot_of_call, IsCompleting, Holds, ScanKeeps, TakesIn}
 use Rattle.calls_counts.proofs.Events.{CallFits, pending_fit, completed_fit, answered_fit}
 use Rattle.calls_counts.proofs.Events.{pending_rise}

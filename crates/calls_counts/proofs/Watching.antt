@@ -10,7 +10,6 @@ use Rattle.calls_core.specs.declared.history.Event.{Event}
 use Rattle.calls_core.specs.declared.history.Reply.{Reply}
 use Rattle.calls_core.specs.declared.history.Call.{Call}
 use Rattle.calls_counts.specs.declared.state.Slot.{Slot}
-use Rattle.calls_counts.specs.declared.state.NotedCall.{NotedCall}
 use Rattle.calls_core.specs.Lists.{Each, EachFrom}
 use Rattle.calls_core.specs.declared.history.Action.TheVariants.{Invoke, Respond}
 use Rattle.calls_core.specs.declared.history.Op.{Op}
@@ -21,7 +20,7 @@ use Rattle.calls_core.specs.Histories.{clock, completed_calls, completion, invok
 use Rattle.calls_counts.specs.Faults.{Reached, Contradicts, is_advance, least, most}
 use Rattle.calls_counts.specs.ScanStates.{free, frees, taken_calls, advancing, may_take, takers}
 use Rattle.calls_counts.specs.ScanStates.{Enough}
-use Rattle.calls_counts.specs.Scanning.{IsCallAt, FreeBelow, slot_of_call, IsNew, IsRefused}
+use Rattle.calls_counts.specs.Scanning.{FreeBelow, slot_of_call, IsNew, IsRefused}
 use Rattle.calls_core.specs.declared.history.TheConstants.{WORKERS}
 use Rattle.calls_core.specs.Outcomes.{HasOrderOf}
 use Rattle.calls_counts.specs.declared.monitor.Refusal.{Refusal}
@@ -31,6 +30,8 @@ use Rattle.calls_counts.specs.Watching.{places, AllBelow, IsFirstPlace, own_plac
 use Rattle.calls_counts.specs.Watching.{Watching, IsPossible, IsImpossible}
 use Rattle.calls_counts.specs.Monitors.{Explains, refused_call, IsRefusedAt, IsTaken}
 use Rattle.calls_core.proofs.Counting.{one, count_cons, count_less}
+use Rattle.calls_core.specs.declared.pending.NotedCall.{NotedCall}
+use Rattle.calls_core.specs.Pending.{IsNotedOf}
 use Rattle.calls_counts.proofs.Slots.{slots_counted}
 use Rattle.calls_counts.proofs.Necessity.{least_given, no_order}
 use Rattle.calls_counts.proofs.Stepping.{invoked_into, turn, Turn, filled_into, forced_into}
@@ -309,7 +310,7 @@ watched_invoked start past x j op begun b total free pending later e more is his
 
 module _ (start : ℕ) (past : List Event) (x : Event) (r : Reply) (begun total : ℕ) (free : List ℕ)
     (pending rest : List NotedCall) (i : ℕ) (u : NotedCall) (e : x.action ≡ Respond r)
-    (k : IsCallAt pending x.worker i) (read : u ≡ get_or pending i u) (is : rest ≡ remove pending i)
+    (k : IsNotedOf pending x.worker i) (read : u ≡ get_or pending i u) (is : rest ≡ remove pending i)
     (history : IsHistoryOf (Eventcount start) (x ∷ past))
     (w : Watching start past begun total free pending) where
   turned : Turn past x r pending rest i u

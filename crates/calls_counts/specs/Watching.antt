@@ -5,8 +5,8 @@ use Rattle.std.specs.Prelude.{length, Option, Some, None, get_or, Result, Ok, Er
 use Rattle.calls_core.specs.declared.history.TheConstants.{WORKERS}
 use Rattle.calls_core.specs.declared.history.Event.{Event}
 use Rattle.calls_core.specs.declared.history.Call.{Call}
+use Rattle.calls_core.specs.declared.pending.NotedCall.{NotedCall}
 use Rattle.calls_counts.specs.declared.state.Slot.{Slot}
-use Rattle.calls_counts.specs.declared.state.NotedCall.{NotedCall}
 use Rattle.calls_counts.specs.declared.state.PlacedRead.{PlacedRead}
 use Rattle.calls_counts.specs.declared.monitor.Refusal.{Refusal}
 use Rattle.calls_counts.specs.declared.monitor.Refusal.TheVariants.{Below, Few, Many}

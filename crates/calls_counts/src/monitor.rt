@@ -6,10 +6,9 @@ ghost use Rattle.calls_core.specs.declared.history.Action.TheVariants.{Invoke, R
 ghost use Rattle.calls_counts.specs.Monitors.{Starts, HasRoom, Judges};
 ghost use Rattle.calls_counts.specs.Watching.{places, AllBelow, IsFirstPlace, IsJudged};
 
-use crate::NotedCall;
-use crate::find::{contradicts, find, is_advance, least, most};
+use crate::find::{contradicts, is_advance, least, most};
 use arrayvec::ArrayVec;
-use calls_core::{Action, Call, Event, Op, PendingCall, Reply, WORKERS};
+use calls_core::{Action, Call, Event, NotedCall, Op, PendingCall, Reply, WORKERS, find_noted};
 
 /// The state after the events so far, with at most `WORKERS` pending calls.
 #[derive(Drop)]
@@ -22,7 +21,7 @@ pub struct Monitor {
     pub total: usize,
     /// Which of the first `total` advances no response accounts for yet: their indices, ascending.
     pub free: ArrayVec<usize, WORKERS>,
-    /// The pending calls.
+    /// The pending calls, each with `total` at its invocation.
     pub pending: ArrayVec<NotedCall, WORKERS>,
 }
 
@@ -45,14 +44,6 @@ pub enum Refusal {
         most: usize,
         made: usize,
     },
-}
-
-/// Adds a pending call.
-fn begin(pending: &mut ArrayVec<NotedCall, WORKERS>, call: NotedCall)
-    requires { array_vec_len pending.old < WORKERS }
-    ensures { pending.new.items ≡ pending.old.items ++ call ∷ [] }
-{
-    pending.push(call);
 }
 
 /// Returns where in `free` the first index that is at least `noted` is.
@@ -120,14 +111,9 @@ impl Monitor {
         requires action { event.action ≡ Invoke object op }
         ensures { Judges self.old self.new event (Ok tt) }
     {
-        let call = PendingCall {
-            worker: event.worker,
-            object,
-            op,
-            first: event.at,
-        };
+        let call = PendingCall::new(event, object, op);
         let noted = self.total;
-        begin(&mut self.pending, NotedCall { call, noted });
+        self.pending.push(NotedCall { call, noted });
         if is_advance(op) {
             self.begun += 1;
         }
@@ -140,19 +126,12 @@ impl Monitor {
         requires counted { self.old.total ≤ self.old.begun }
         ensures { Judges self.old self.new event result }
     {
-        let Some(i) = find(self.pending.as_slice(), event.worker) else {
+        let Some(i) = find_noted(self.pending.as_slice(), event.worker) else {
             return Ok(());
         };
         let u = self.pending.remove(i);
-        let call = Call {
-            worker: u.call.worker,
-            object: u.call.object,
-            op: u.call.op,
-            reply,
-            first: u.call.first,
-            last: event.at,
-        };
-        if !is_advance(call.op) {
+        let call = u.call.complete(reply, event.at);
+        if !is_advance(u.call.op) {
             return observe(
                 self.start,
                 self.begun,

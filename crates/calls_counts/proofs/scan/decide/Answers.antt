@@ -9,7 +9,7 @@ use Rattle.calls_core.specs.Calls.{Earlier}
 use Rattle.calls_core.specs.Lists.{EachPair}
 use Rattle.calls_core.specs.Beginnings.{past_at}
 use Rattle.calls_core.specs.Outcomes.{HasOrderOf}
-use Rattle.calls_counts.specs.ScanStates.{noted_calls}
+use Rattle.calls_core.specs.Pending.{noted_calls}
 use Rattle.calls_counts.specs.Orders.{IsOrdering}
 use Rattle.calls_counts.specs.Scanning.{Holds, Completes, TakesIn}
 use Rattle.calls_counts.proofs.Events.{pending_rise}
