@@ -7,3 +7,4 @@ pub mod Settling
 pub mod Beginnings
 mod Placing
 pub mod Finding
+pub mod Ranges

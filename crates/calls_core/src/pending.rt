@@ -1,9 +1,11 @@
-//! Searches for the pending call of a worker.
-ghost use Rattle.std.specs.Prelude.{◌≡◌, MatchOption, None};
+//! The pending calls of workers, and lists in constant memory.
+ghost use Rattle.std.specs.Prelude.{◌≡◌, ◌+◌, ◌-◌, ◌<◌, ◌≤◌, ◌++◌, length, MatchOption, None};
+ghost use Rattle.std.specs.List.{range_with_len};
 ghost use Rattle.calls_core.specs.Histories.{pending_of};
 ghost use Rattle.calls_core.specs.Pending.{noted_calls, IsPendingOf, IsNotedOf};
 
-use crate::PendingCall;
+use crate::{PendingCall, WORKERS};
+use arrayvec::ArrayVec;
 
 /// A pending call, with a number that was known at its invocation.
 #[derive(Clone, Copy, Debug, Default, PartialEq, Eq)]
@@ -38,4 +40,19 @@ pub fn find_noted(pending: &[NotedCall], worker: usize) -> Option<usize>
         }
     }
     None
+}
+
+/// Adds the numbers from `from` to below `upto`, as far as there is room.
+pub fn push_range(list: &mut ArrayVec<usize, WORKERS>, from: usize, upto: usize)
+    ensures { (from < upto → length list.old.items + (upto - from) ≤ WORKERS)
+        → list.new.items ≡ list.old.items ++ range_with_len from (upto - from) }
+{
+    let mut i = from;
+    while i < upto {
+        if list.is_full() {
+            return;
+        }
+        list.push(i);
+        i += 1;
+    }
 }
