@@ -5,7 +5,7 @@ use Rattle.std.specs.List.{range_with_len as places}
 use Rattle.std.proofs.lemmas.List.FromFn.{length-range_with_len}
 use Rattle.calls_core.specs.declared.history.TheConstants.{WORKERS}
 
-places_more : (p n : ℕ) → places p (suc n) ≡ places p n ++ (p + n) ∷ []
+pub places_more : (p n : ℕ) → places p (suc n) ≡ places p n ++ (p + n) ∷ []
 places_more p zero = ap (λ k. k ∷ []) (let e : p ≡ p + 0 = omega arith in e)
 places_more p (suc n) = ap (λ ps. p ∷ ps) (places_more (p + 1) n ∙ ap (λ k.
     places (p + 1) n ++ k ∷ []) (let e : p + 1 + n ≡ p + suc n = omega arith in e))

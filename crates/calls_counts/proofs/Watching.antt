@@ -3,7 +3,7 @@ use Rattle.std.proofs.Common.{Bool, true, false, ◌&&◌, cond, ◌≡◌, ℕ,
 use Rattle.std.proofs.Common.{inl, List, [], ◌∷◌, ◌++◌, length, Option, Some, None, refl, ap, sym}
 use Rattle.std.proofs.Common.{◌∙◌, arith, subst, get_or, Result, Ok, Err, append_assoc, append-nil}
 use Rattle.std.proofs.Common.{length-append}
-use Rattle.std.specs.List.{remove}
+use Rattle.std.specs.List.{remove, range_with_len as places}
 use Rattle.std.proofs.lemmas.List.Sums.{count_by-le-length}
 use Rattle.calls_core.specs.declared.history.Kind.TheVariants.{Eventcount}
 use Rattle.calls_core.specs.declared.history.Event.{Event}
@@ -26,7 +26,7 @@ use Rattle.calls_core.specs.Outcomes.{HasOrderOf}
 use Rattle.calls_counts.specs.declared.monitor.Refusal.{Refusal}
 use Rattle.calls_counts.specs.declared.monitor.Refusal.TheVariants.{Below as IsBelow, Few as IsFew}
 use Rattle.calls_counts.specs.declared.monitor.Refusal.TheVariants.{Many as IsMany}
-use Rattle.calls_counts.specs.Watching.{places, AllBelow, IsFirstPlace, own_place, free_places}
+use Rattle.calls_counts.specs.Watching.{AllBelow, IsFirstPlace, own_place, free_places}
 use Rattle.calls_counts.specs.Watching.{Watching, IsPossible, IsImpossible}
 use Rattle.calls_counts.specs.Monitors.{Explains, refused_call, IsRefusedAt, IsTaken}
 use Rattle.calls_core.proofs.Counting.{one, count_cons, count_less}
@@ -40,15 +40,6 @@ use Rattle.calls_counts.proofs.Deciding.{starts, First, kept_has_order}
 use Rattle.calls_counts.proofs.Exactly.{too_few, seen_by}
 
 -- INDICES OF FREE SLOTS
-
-pub places_length : (p n : ℕ) → length (places p n) ≡ n
-places_length p zero = refl
-places_length p (suc n) = omega (arith, places_length (p + 1) n)
-
-pub places_more : (p n : ℕ) → places p (suc n) ≡ places p n ++ (p + n) ∷ []
-places_more p zero = ap (λ k. k ∷ []) (let e : p ≡ p + 0 = omega arith in e)
-places_more p (suc n) = ap (λ ps. p ∷ ps) (places_more (p + 1) n ∙ ap (λ k.
-    places (p + 1) n ++ k ∷ []) (let e : p + 1 + n ≡ p + suc n = omega arith in e))
 
 free_append : (i n : ℕ) (xs ys : List Slot) → n ≡ i + length xs
     → free_places i (xs ++ ys) ≡ free_places i xs ++ free_places n ys
@@ -262,21 +253,6 @@ counted_exactly : (n start place total long more : ℕ) → n ≤ start + place 
 counted_exactly n start place total long zero low within exact same = omega arith
 counted_exactly n start place total long (suc more) low within exact same =
     (let le : start + (long + suc more) ≤ n = exact (omega arith) in omega arith)
-
-pub raised_more : (p i : ℕ) (old now : List ℕ) → p ≤ i → now ≡ old ++ places p (i - p)
-    → now ++ i ∷ [] ≡ old ++ places p (i + 1 - p)
-raised_more p i old now le is =
-    let last : p + (i - p) ≡ i = omega arith in
-    let next : suc (i - p) ≡ i + 1 - p = omega arith in
-    ap (λ ps. ps ++ i ∷ []) is ∙ append_assoc old (places p (i - p)) (i ∷ [])
-    ∙ ap (λ ps. old ++ ps) (ap (λ k. places p (i - p) ++ k ∷ []) (sym last) ∙ sym
-    (places_more p (i - p)) ∙ ap (places p) next)
-
-pub raised_full : (p i q : ℕ) (old now : List ℕ) → p ≤ i → i < q → now ≡ old ++ places p (i - p)
-    → length now ≡ WORKERS → (p < q → length old + (q - p) ≤ WORKERS) → ⊥
-raised_full p i q old now le lt is full room =
-    let few : length old + (q - p) ≤ WORKERS = room (omega arith) in
-    omega (arith, few, ap length is, length-append old (places p (i - p)), places_length p (i - p))
 
 pub watched_start : (start : ℕ) → Watching start [] 0 0 [] []
 watched_start start = record {

@@ -1,14 +1,16 @@
 //! A monitor of one eventcount: it judges a history event by event, in constant memory.
 ghost use Rattle.std.specs.Prelude.{◌≡◌, ◌+◌, ◌-◌, ◌<◌, ◌≤◌, ◌^◌, ◌++◌, [], ◌∷◌, length};
 ghost use Rattle.std.specs.Prelude.{MatchOption};
+ghost use Rattle.std.specs.List.{range_with_len};
 ghost use Rattle.arrayvec.specs.ArrayVec.{array_vec_len};
 ghost use Rattle.calls_core.specs.declared.history.Action.TheVariants.{Invoke, Respond};
-ghost use Rattle.calls_counts.specs.Monitors.{Starts, HasRoom, Judges};
-ghost use Rattle.calls_counts.specs.Watching.{places, AllBelow, IsFirstPlace, IsJudged};
+ghost use Rattle.calls_core.specs.Pending.{HasRoom};
+ghost use Rattle.calls_counts.specs.Monitors.{Starts, Judges};
+ghost use Rattle.calls_counts.specs.Watching.{AllBelow, IsFirstPlace, IsJudged};
 
 use crate::find::{contradicts, is_advance, least, most};
 use arrayvec::ArrayVec;
-use calls_core::{Action, Call, Event, NotedCall, Op, PendingCall, Reply, WORKERS, find_noted};
+use calls_core::{Action, Call, Event, NotedCall, Op, PendingCall, Reply, WORKERS, find_noted, push_range};
 
 /// The state after the events so far, with at most `WORKERS` pending calls.
 #[derive(Drop)]
@@ -57,21 +59,6 @@ fn place_from(free: &[usize], noted: usize) -> Option<usize>
         }
     }
     None
-}
-
-/// Adds the indices from `from` to below `upto`, as far as there is room.
-fn raise(free: &mut ArrayVec<usize, WORKERS>, from: usize, upto: usize)
-    ensures { (from < upto → length free.old.items + (upto - from) ≤ WORKERS)
-        → free.new.items ≡ free.old.items ++ places from (upto - from) }
-{
-    let mut i = from;
-    while i < upto {
-        if free.is_full() {
-            return;
-        }
-        free.push(i);
-        i += 1;
-    }
 }
 
 impl Monitor {
@@ -186,7 +173,7 @@ fn observe(
             });
         }
     }
-    raise(free, *total, n);
+    push_range(free, *total, n);
     *total = n.max(*total);
     Ok(())
 }

@@ -2,8 +2,9 @@
 ghost use Rattle.std.specs.Prelude.{◌≡◌, ◌-◌, ◌==◌, IfOk};
 ghost use Rattle.std.specs.List.{position};
 ghost use Rattle.calls_core.specs.declared.history.PendingCall.{PendingCall};
+ghost use Rattle.calls_core.specs.Pending.{HasRoom};
 ghost use Rattle.arrayvec.specs.ArrayVec.{array_vec_len};
-ghost use Rattle.calls_semaphores.specs.Monitors.{HasRoom, Judges, Grows, Starts};
+ghost use Rattle.calls_semaphores.specs.Monitors.{Judges, Grows, Starts};
 
 use crate::scan::invoked_by;
 use crate::{Bank, Fault};

@@ -7,12 +7,12 @@ use Rattle.calls_core.specs.declared.history.Call.{Call}
 use Rattle.calls_core.specs.Histories.{clock, pending_calls, completed_calls, IsHistoryOf}
 use Rattle.calls_core.specs.Beginnings.{past_at}
 use Rattle.calls_core.specs.Outcomes.{IsOrderOf, HasOrderOf, IsFirstFault}
+use Rattle.calls_core.specs.Pending.{noted_calls}
 use Rattle.calls_tickets.specs.declared.fault.Fault.{Fault}
 use Rattle.calls_tickets.specs.declared.table.Decision.{Decision}
 use Rattle.calls_tickets.specs.declared.recorded.RecordedTickets.{RecordedTickets}
 use Rattle.calls_tickets.specs.Faults.{Shows}
 use Rattle.calls_tickets.specs.kept.Tables.{AreTickets, IsDecided}
-use Rattle.calls_tickets.specs.kept.Watching.{calls_in}
 use Rattle.calls_tickets.specs.kept.Recording.{AreGathered, Records, IsFaulty}
 use Rattle.calls_tickets.proofs.Histories.{tickets_until, past_next, past_all, history_next}
 use Rattle.calls_tickets.proofs.Refuting.{no_order}
@@ -22,15 +22,15 @@ use Rattle.calls_tickets.proofs.Answering.{watching_order, shown_no_order}
 pub tickets_gathered : (past : List Event) (r : RecordedTickets) (t : ℕ)
     → IsHistoryOf Sequencer past
     → clock past ≤ t + 1 → AreGathered past r → AreTickets (reverse r.done.items)
-    (calls_in r.pending.items) t
+    (noted_calls r.pending.items) t
 tickets_gathered past r t h le g =
-    subst (λ ds. AreTickets ds (calls_in r.pending.items) t) (sym g.done_are)
+    subst (λ ds. AreTickets ds (noted_calls r.pending.items) t) (sym g.done_are)
     (subst (λ os. AreTickets (completed_calls past) os t) (sym g.pending_are)
     (tickets_until past t h le))
 
 pub decided_of : (past : List Event) (r : RecordedTickets) (t : ℕ) (d e : Decision)
     → AreGathered past r
-    → d ≡ e → IsDecided (reverse r.done.items) (calls_in r.pending.items) t d
+    → d ≡ e → IsDecided (reverse r.done.items) (noted_calls r.pending.items) t d
     → IsDecided (completed_calls past) (pending_calls past) t e
 decided_of past r t d e g is h =
     subst (IsDecided (completed_calls past) (pending_calls past) t) is

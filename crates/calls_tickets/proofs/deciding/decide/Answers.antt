@@ -3,10 +3,10 @@ use Rattle.calls_core.specs.declared.history.Action.TheVariants.{Invoke}
 use Rattle.calls_core.specs.declared.history.Op.TheVariants.{Advance}
 use Rattle.calls_core.specs.declared.history.Event.{Event}
 use Rattle.calls_core.specs.Beginnings.{past_at}
+use Rattle.calls_core.specs.Pending.{noted_calls}
 use Rattle.calls_tickets.specs.declared.table.Decision.TheVariants.{Order, Faulty}
 use Rattle.calls_tickets.specs.kept.Recording.{IsFollowed, TakesIn}
 use Rattle.calls_tickets.specs.kept.Tables.{AreTickets, IsDecided}
-use Rattle.calls_tickets.specs.kept.Watching.{calls_in}
 use Rattle.calls_tickets.proofs.Outcomes.{tickets_gathered, decided_of, not_ordered, not_faulty}
 use Rattle.calls_tickets.proofs.Outcomes.{history_here, first_fault, records_next, records_all}
 use Rattle.calls_tickets.proofs.deciding.decide.Goals as goal
@@ -28,7 +28,7 @@ decide-requires c =
     c.if-not-branch.true (took (past_at l.i events) h l.invariant.0) in
     record {
       tickets = subst (λ (x : Event). AreTickets (reverse c.event.new.self.done.items)
-          (calls_in c.event.new.self.pending.items) x.at) (sym here)
+          (noted_calls c.event.new.self.pending.items) x.at) (sym here)
           (tickets_gathered (get_or events l.i no_event ∷ past_at l.i events)
           c.event.new.self (get_or events l.i no_event).at h (omega arith) f.gathered);
     }
@@ -50,7 +50,7 @@ unreachable-requires c =
     (omega arith) c.event.new.self f
     (decided_of past c.event.new.self (get_or events l.i no_event).at c.in_ok-decide.field-0
     (Order c.in-Order.field-0) f.gathered c.in-Order.is (subst (λ (x : Event). IsDecided
-    (reverse c.event.new.self.done.items) (calls_in c.event.new.self.pending.items) x.at
+    (reverse c.event.new.self.done.items) (noted_calls c.event.new.self.pending.items) x.at
     c.in_ok-decide.field-0) here c.in_ok-decide.ensures))
 
 pub returns-then-not-branch : goal.returns-then-not-branch
@@ -70,7 +70,7 @@ returns-then-not-branch c =
     l.invariant.0 l.invariant.1
     (decided_of past c.event.new.self (get_or events l.i no_event).at c.in_ok-decide.field-0
     (Faulty c.in-Faulty.fault) f.gathered c.in-Faulty.is (subst (λ (x : Event). IsDecided
-    (reverse c.event.new.self.done.items) (calls_in c.event.new.self.pending.items) x.at
+    (reverse c.event.new.self.done.items) (noted_calls c.event.new.self.pending.items) x.at
     c.in_ok-decide.field-0) here c.in_ok-decide.ensures))
 
 pub loop-i-preserved : goal.loop-i-preserved
