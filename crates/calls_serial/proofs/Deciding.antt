@@ -28,6 +28,7 @@ use Rattle.calls_core.proofs.Lists.{each_weaker}
 use Rattle.calls_core.proofs.Positions.{each_call_by, are_calls_of}
 use Rattle.calls_core.proofs.Settling.{order_at}
 use Rattle.calls_core.proofs.Beginnings.{past_split, history_at, orders_before}
+use Rattle.calls_core.specs.Pending.{IsPendingOf}
 use Rattle.calls_serial.specs.declared.outcome.Fault.{Fault}
 use Rattle.calls_serial.specs.declared.stage.Stage.{Stage}
 use Rattle.calls_serial.specs.declared.stage.Link.{Link}
@@ -40,8 +41,9 @@ use Rattle.calls_serial.specs.kept.Stages.{first_stage}
 use Rattle.calls_serial.specs.Outcomes.{IsOutcome}
 use Rattle.calls_serial.specs.kept.Passing.{Holding, EndsCall, IsInvoked}
 use Rattle.calls_serial.specs.kept.Passing.{Invokes}
-use Rattle.calls_serial.specs.kept.Passing.{Holds, Stops, TakesIn, IsCallAt, outcome_of}
+use Rattle.calls_serial.specs.kept.Passing.{Holds, Stops, TakesIn}
 use Rattle.calls_serial.proofs.Ordering.{ordered, all_calls_append}
+use Rattle.calls_serial.specs.declared.outcome.Outcome.TheVariants.{Refused, Overlapping}
 
 pub early_calls : (past : List Event) → IsHistoryOf Cell past
     → Each (λ (c : Call). c.last < clock past) (completed_calls past)
@@ -220,15 +222,19 @@ module _ (end i : ℕ) (events : List Event) (d : Event) (lt : i < length events
       (took (past_at i events) (subst (IsHistoryOf Cell) next (history_at Cell (i + 1) events h))
       (let c = clock_at (i + 1) events h in omega arith) holds))
 
-  pub stopped : (z : Stop) → stop ≡ Some z → IsOutcome Cell events end (outcome_of i z)
-  stopped (Fails fault) e = record {
+  pub failed : (fault : Fault) → stop ≡ Some (Fails fault)
+      → IsOutcome Cell events end (Refused i fault)
+  failed fault e = record {
     within = lt;
     shows = subst (Stops end (past_at (i + 1) events) new) e stops_at;
     before = λ j less. orders_before Cell i j events less (history_at Cell i events h)
         (has_order end (past_at i events) old (history_at Cell i events h)
         (let c = clock_at i events h in omega arith) holds);
   }
-  stopped (Overlaps o p) e = record {
+
+  pub overlapped : (o p : PendingCall) → stop ≡ Some (Overlaps o p)
+      → IsOutcome Cell events end (Overlapping o p)
+  overlapped o p e = record {
     moment = i + 1;
     within = omega arith;
     both = subst (Stops end (past_at (i + 1) events) new) e stops_at;
@@ -255,12 +261,11 @@ order_all end i events pass le h =
     (holds_order end (past_at i events) pass h)
 
 pub taken_call : (xs ys calls rest : List PendingCall) (w i : ℕ) (o : PendingCall) → xs ≡ ys
-    → ys ≡ calls → IsCallAt xs w i → o ≡ get_or ys i o → rest ≡ remove ys i
+    → ys ≡ calls → IsPendingOf xs w i → o ≡ get_or ys i o → rest ≡ remove ys i
     → (pending_of w calls ≡ Some o) × (rest ≡ without w calls)
 taken_call xs ys calls rest w i o same are k at left =
-    (let own : o ≡ k.call =
-    at ∙ ap (λ zs. get_or zs i o) (sym same) ∙ get_or_from_slice_get xs i k.call o k.here in (
-      ap (pending_of w) (sym (same ∙ are)) ∙ k.his ∙ ap Some (sym own),
+    (let own : o ≡ get_or xs i o = at ∙ ap (λ zs. get_or zs i o) (sym same) in (
+      ap (pending_of w) (sym (same ∙ are)) ∙ k.first o ∙ ap Some (sym own),
       left ∙ ap (λ zs. remove zs i) (sym same) ∙ sym k.others ∙ ap (without w) (same ∙ are),
     ))
 
