@@ -119,10 +119,11 @@ pub fn decide(alloc: Global, events: &Part<'_, '_>, end: usize) -> Result<Outcom
     let mut pass = begin(alloc)?;
     for i in 0..events.len() {
         let event = events.at(i);
-        match take_in(alloc, &mut pass, *event, end)? {
-            Some(Stop::Fails(fault)) => return Ok(Outcome::Refused(i, fault)),
-            Some(Stop::Overlaps(put, other)) => return Ok(Outcome::Overlapping(put, other)),
-            None => {}
+        if let Some(stop) = take_in(alloc, &mut pass, *event, end)? {
+            match stop {
+                Stop::Fails(fault) => return Ok(Outcome::Refused(i, fault)),
+                Stop::Overlaps(put, other) => return Ok(Outcome::Overlapping(put, other)),
+            }
         }
     }
     Ok(Outcome::Ordered(order(alloc, &pass.stages)?))

@@ -11,29 +11,29 @@ pub loop-i-init : goal.loop-i-init
 loop-i-init c = begun c.args.end c.in_ok-pass.pass c.in_ok-pass.ensures.pending
     c.in_ok-pass.ensures.stages
 
-pub returns-in-Some-Fails : goal.returns-in-Some-Fails
-returns-in-Some-Fails c =
+pub returns-in-Fails : goal.returns-in-Fails
+returns-in-Fails c =
     let x = c.at-event.result.now in
     let lt : c.loop-i.i < length c.args.events.now =
     omega (arith, c.loop-i-test.true, c.len-i-end.ensures) in
     let took = subst (λ (y : Event). TakesIn c.args.end c.loop-i.pass c.take_in.new.pass y
-    c.in_ok-fault.field-0) (c.at-event.ensures x) c.in_ok-fault.ensures in
+    c.in_ok-stop.field-0) (c.at-event.ensures x) c.in_ok-stop.ensures in
     failed c.args.end c.loop-i.i c.args.events.now x lt c.requires.history
-    c.requires.late c.loop-i.pass c.take_in.new.pass c.loop-i.invariant c.in_ok-fault.field-0
-    took c.in-Some-Fails.fault
-    (c.in-Some-Fails.is ∙ ap (λ z. Some z) c.in-Some-Fails.field-0-is)
+    c.requires.late c.loop-i.pass c.take_in.new.pass c.loop-i.invariant c.in_ok-stop.field-0
+    took c.in-Fails.fault
+    (c.in-Some.is ∙ ap (λ z. Some z) c.in-Fails.is)
 
-pub returns-in-Some-Overlaps : goal.returns-in-Some-Overlaps
-returns-in-Some-Overlaps c =
+pub returns-in-Overlaps : goal.returns-in-Overlaps
+returns-in-Overlaps c =
     let x = c.at-event.result.now in
     let lt : c.loop-i.i < length c.args.events.now =
     omega (arith, c.loop-i-test.true, c.len-i-end.ensures) in
     let took = subst (λ (y : Event). TakesIn c.args.end c.loop-i.pass c.take_in.new.pass y
-    c.in_ok-fault.field-0) (c.at-event.ensures x) c.in_ok-fault.ensures in
+    c.in_ok-stop.field-0) (c.at-event.ensures x) c.in_ok-stop.ensures in
     overlapped c.args.end c.loop-i.i c.args.events.now x lt c.requires.history
-    c.requires.late c.loop-i.pass c.take_in.new.pass c.loop-i.invariant c.in_ok-fault.field-0
-    took c.in-Some-Overlaps.put c.in-Some-Overlaps.other
-    (c.in-Some-Overlaps.is ∙ ap (λ z. Some z) c.in-Some-Overlaps.field-0-is)
+    c.requires.late c.loop-i.pass c.take_in.new.pass c.loop-i.invariant c.in_ok-stop.field-0
+    took c.in-Overlaps.put c.in-Overlaps.other
+    (c.in-Some.is ∙ ap (λ z. Some z) c.in-Overlaps.is)
 
 pub loop-i-preserved : goal.loop-i-preserved
 loop-i-preserved c =
@@ -41,10 +41,10 @@ loop-i-preserved c =
     let lt : c.loop-i.i < length c.args.events.now =
     omega (arith, c.loop-i-test.true, c.len-i-end.ensures) in
     let took = subst (λ (y : Event). TakesIn c.args.end c.loop-i.pass c.take_in.new.pass y
-    c.in_ok-fault.field-0) (c.at-event.ensures x) c.in_ok-fault.ensures in
+    c.in_ok-stop.field-0) (c.at-event.ensures x) c.in_ok-stop.ensures in
     holds_next c.args.end c.loop-i.i c.args.events.now x lt c.requires.history
-    c.requires.late c.loop-i.pass c.take_in.new.pass c.loop-i.invariant c.in_ok-fault.field-0
-    took c.in-None.is
+    c.requires.late c.loop-i.pass c.take_in.new.pass c.loop-i.invariant c.in_ok-stop.field-0
+    took c.in_default.is
 
 pub returns : goal.returns
 returns c =
