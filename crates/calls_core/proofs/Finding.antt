@@ -77,3 +77,12 @@ found os w k d lt own others =
           (index_of_get os k (get_or os k d) e at.item);
       others = ap (without w) (sym (map_same os)) ∙ at.rest ∙ map_same (remove os k);
     }
+
+pub without_none : (os : List PendingCall) (w : ℕ) → pending_of w os ≡ None → os ≡ without w os
+without_none [] w e = refl
+without_none (o ∷ os) w e =
+    elim (o.worker == w) as (λ b. cond b (Some o) (pending_of w os) ≡ None
+    → o ∷ os ≡ cond b os (o ∷ without w os)) [
+      | true ↦ λ is. cc
+      | false ↦ λ is. ap (λ zs. o ∷ zs) (without_none os w is)
+    ] e

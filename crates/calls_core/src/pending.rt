@@ -1,7 +1,7 @@
 //! The pending calls of workers, and lists in constant memory.
 ghost use Rattle.std.specs.Prelude.{◌≡◌, ◌+◌, ◌-◌, ◌<◌, ◌≤◌, ◌++◌, length, MatchOption, None};
 ghost use Rattle.std.specs.List.{range_with_len};
-ghost use Rattle.calls_core.specs.Histories.{pending_of};
+ghost use Rattle.calls_core.specs.Histories.{pending_of, without};
 ghost use Rattle.calls_core.specs.Pending.{noted_calls, IsPendingOf, IsNotedOf};
 
 use crate::{PendingCall, WORKERS};
@@ -27,6 +27,17 @@ pub fn find(pending: &[PendingCall], worker: usize) -> Option<usize>
         }
     }
     None
+}
+
+/// Removes and returns a worker's pending call, if it has one.
+pub fn take_pending(pending: &mut Vec<PendingCall>, worker: usize) -> Option<PendingCall>
+    ensures result { result ≡ pending_of worker pending.old.items }
+    ensures rest { pending.new.items ≡ without worker pending.old.items }
+{
+    match find(pending, worker) {
+        Some(i) => Some(pending.remove(i)),
+        None => None,
+    }
 }
 
 /// Returns the index of a worker's pending call, or `None` if it has none.
