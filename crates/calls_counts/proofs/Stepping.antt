@@ -518,8 +518,3 @@ pub keeps_or : (start : ℕ) (past : List Event) (x : Event) (new : Scan) (f : O
     → MatchOption f (ScanKeeps start (x ∷ past) new) (Shows start (x ∷ past))
 keeps_or start past x new None h = record { holds = h.0; skips = h.1 }
 keeps_or start past x new (Some f) h = h
-
-pub if_ok : (P Q : Option Fault → Type 0) (res : Result (Option Fault) AllocError)
-    → ((r : Option Fault) → P r → Q r) → IfOk res P → IfOk res Q
-if_ok P Q (Ok r) f h = f r h
-if_ok P Q (Err e) f h = tt

@@ -12,7 +12,7 @@ use crate::outcome::Outcome;
 use crate::responses::respond;
 use crate::search::{pending_put, put_value};
 use crate::stage::{Pass, Stage, Stop};
-use calls_core::{Action, Event, Part, PendingCall, PlacedCalls, find};
+use calls_core::{Action, Event, Part, PendingCall, PlacedCalls, take_pending};
 use std::alloc::{AllocError, Global};
 
 /// Adds an invocation, or returns two puts that overlap.
@@ -50,10 +50,10 @@ fn take_in(
             invoke(alloc, pass, PendingCall::new(event, object, op), end)
         }
         Action::Respond(reply) => {
-            let Some(i) = find(&pass.pending, event.worker) else {
+            let Some(pending) = take_pending(&mut pass.pending, event.worker) else {
                 return Ok(None);
             };
-            let call = pass.pending.remove(i).complete(reply, event.at);
+            let call = pending.complete(reply, event.at);
             match respond(alloc, pass, call)? {
                 Some(fault) => Ok(Some(Stop::Fails(fault))),
                 None => Ok(None),

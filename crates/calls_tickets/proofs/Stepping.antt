@@ -20,7 +20,7 @@ use Rattle.calls_core.specs.Histories.{pending_calls, pending_after, completed_c
 use Rattle.calls_core.specs.Histories.{IsHistoryOf}
 use Rattle.calls_core.specs.Calls.{IsCallOf, Early}
 use Rattle.calls_core.proofs.Lists.{each_weaker, each_both, each_append}
-use Rattle.calls_core.proofs.Positions.{are_calls_of}
+use Rattle.calls_core.proofs.Positions.{are_calls_of, early_calls}
 use Rattle.calls_core.specs.declared.pending.NotedCall.{NotedCall}
 use Rattle.calls_core.specs.Pending.{noted_calls, IsNotedOf}
 use Rattle.calls_tickets.specs.declared.fault.Fault.{Fault}
@@ -73,12 +73,6 @@ paired_more [] us vs p = tt
 paired_more (h ∷ hs) [] vs p = absurd p
 paired_more (h ∷ hs) (u ∷ us) vs p = (p.0, paired_more hs us vs p.1)
 
-early_calls : (past : List Event) → IsHistoryOf Sequencer past
-    → Each (λ (d : Call). d.last < clock past) (completed_calls past)
-early_calls past h = each_weaker (IsCallOf Sequencer (clock past))
-    (λ (d : Call). d.last < clock past) (λ (d : Call) k. k.early) (completed_calls past)
-    (are_calls_of Sequencer past h).completed
-
 pub invoked : (past : List Event) (x : Event) (k : ℕ) (op : Op) (top : ℕ) (holes : List ℕ)
     (us later : List NotedCall) → x.action ≡ Invoke k op
     → later ≡ us ++ record { call = invoked_by x k op; noted = top } ∷ []
@@ -91,7 +85,7 @@ invoked past x k op top holes us later e is history w =
     ap (λ a. ended_call x a (pending_of x.worker (pending_calls past)) ++ completed_calls past)
     (sym e) in
     let le : clock past ≤ x.at = history.0 in
-    let early = early_calls past history.2 in
+    let early = early_calls Sequencer past history.2 in
     record {
       follows = record {
         pending_is = ap (λ a. pending_after x a (pending_calls past)) e ∙ ap (λ os.
@@ -145,7 +139,7 @@ module _ (past : List Event) (x : Event) (r : Reply) (top : ℕ) (holes : List �
   left = is_response.left ∙ ap (without x.worker) f.pending_is ∙ k.others ∙ ap noted_calls (sym is)
 
   early : Each (λ (d : Call). d.last < clock past) (completed_calls past)
-  early = early_calls past history.2
+  early = early_calls Sequencer past history.2
 
   invoked_early : Each (λ (v : NotedCall). v.call.first < clock past) us
   invoked_early = each_unmap (λ (v : NotedCall). v.call) (Early (clock past)) us

@@ -4,7 +4,7 @@ ghost use Rattle.calls_verdict.specs.kept.Parts.{IsFollowed, IsPart, IsAdded};
 ghost use Rattle.calls_verdict.specs.kept.Parts.{AreParts};
 ghost use Rattle.calls_core.specs.Lists.{EachFrom};
 
-use calls_core::{Action, Event, Kind, PartList, PendingCall, find};
+use calls_core::{Action, Event, Kind, PartList, PendingCall, take_pending};
 use std::alloc::{AllocError, Global};
 
 /// Updates the pending calls with an event, and returns the index of the event's object.
@@ -18,10 +18,9 @@ pub fn follow(pending: &mut Vec<PendingCall>, event: &Event) -> Result<Option<us
             pending.push(PendingCall::new(*event, object, op))?;
             Ok(Some(object))
         }
-        Action::Respond(_reply) => match find(pending, event.worker) {
-            Some(i) => Ok(Some(pending.remove(i).object)),
-            None => Ok(None),
-        },
+        Action::Respond(_reply) => {
+            Ok(take_pending(pending, event.worker).map(|call| call.object))
+        }
     }
 }
 

@@ -9,10 +9,10 @@ use Rattle.calls_counts.specs.Faults.{is_advance}
 use Rattle.calls_counts.specs.Scanning.{slot_of_call, IsFilled, NoneFree, IsObserved, IsRefused}
 use Rattle.calls_counts.specs.Scanning.{TakesIn}
 use Rattle.calls_counts.proofs.Stepping.{turn, filled_into, forced_into, returned_into, keeps_or}
-use Rattle.calls_counts.proofs.Stepping.{if_ok}
 use Rattle.calls_counts.proofs.Skipping.{skips_same, skips_longer}
 use Rattle.calls_counts.specs.declared.scan.Scan.{Scan}
 use Rattle.std.proofs.lemmas.Bool.{MatchBool-at_true, MatchBool-at_false}
+use Rattle.std.proofs.lemmas.Result.{IfOk-weaker}
 use Rattle.calls_counts.proofs.scan.respond.Goals as goal
 
 pub returns-in_ok-push : goal.returns-in_ok-push
@@ -81,7 +81,7 @@ returns-then-not-is_advance c =
     → MatchOption f (IsObserved c.args.start s.begun u.noted z s.slots.items
     c.observe.new.slots.items s.reads.items c.observe.new.reads.items)
     (IsRefused c.args.start s.begun u.noted z s.slots.items s.reads.items) in
-    if_ok (P (completion x.at r u.call)) (TakesIn c.args.start s new x) c.observe.result
+    IfOk-weaker c.observe.result (P (completion x.at r u.call)) (TakesIn c.args.start s new x)
     (λ f returned past history keeps.
     (let t = turn c.args.start past x r s.begun s.slots.items s.pending.items
     c.remove-u.new.self.items s.reads.items c.in-Some.i u c.requires
