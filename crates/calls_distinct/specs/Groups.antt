@@ -33,7 +33,7 @@ later a b = if nat_lt a.first b.first then b else a
 abbrev pub with_call : Group → Call → Group
 with_call g c =
     record {
-      got = g.got || not (is_put c.op);
+      got = not (is_put c.op) || g.got;
       puts = if is_put c.op then g.puts + 1 else g.puts;
       put = if is_put c.op then c.first else g.put;
       early = earlier g.early c;

@@ -49,7 +49,7 @@ fn with_call<'a>(group: &Group<'a>, call: &'a Call) -> Group<'a>
 {
     let put = is_put(call.op);
     Group {
-        got: group.got || !put,
+        got: !put || group.got,
         puts: if put { group.puts + 1 } else { group.puts },
         put: if put { call.first } else { group.put },
         early: earlier(group.early, call),
