@@ -342,9 +342,6 @@ module _ (done : List Call) (pending : List PendingCall) (t : ℕ) (zs : List Gr
               })
         ] refl
 
-    zone_call : (z : GroupedCall) → (zone_of z).call ≡ z.call
-    zone_call z = refl
-
     calls_kept : (ys : List GroupedCall) → Each (λ (z : GroupedCall). Contains zs z) ys
         → zone_calls (zones_of t ys) ≡ filter (keeps done pending t) (grouped_calls ys)
     calls_kept [] h = refl
@@ -353,7 +350,7 @@ module _ (done : List Call) (pending : List PendingCall) (t : ℕ) (zs : List Gr
         → zone_calls (map zone_of (cond b (z ∷ filter (takes_effect t) ys)
         (filter (takes_effect t) ys))) ≡ filter (keeps done pending t)
         (z.call ∷ grouped_calls ys)) [
-          | true ↦ λ e. ap (λ (c : Call). c ∷ zone_calls (zones_of t ys)) (zone_call z) ∙ ap (λ cs.
+          | true ↦ λ e. ap (λ cs.
               z.call ∷ cs) (calls_kept ys h.1) ∙ sym (filter_yes (keeps done pending t) z.call
               (grouped_calls ys) (sym (effect_of z h.0) ∙ e))
           | false ↦ λ e. calls_kept ys h.1 ∙ sym (filter_no (keeps done pending t) z.call

@@ -82,11 +82,19 @@ fn misuse_by(kinds: &[Kind], action: Action, pending: Option<PendingCall>) -> Op
     match (action, pending) {
         (Action::Invoke(_, _), Some(_)) => Some(Misuse::Busy),
         (Action::Invoke(object, op), None) => {
-            if is_taken(kinds, object, op) { None } else { Some(Misuse::NotTaken) }
+            if is_taken(kinds, object, op) {
+                None
+            } else {
+                Some(Misuse::NotTaken)
+            }
         }
         (Action::Respond(_), None) => Some(Misuse::Idle),
         (Action::Respond(reply), Some(call)) => {
-            if suits(call.op, reply) { None } else { Some(Misuse::Unsuited) }
+            if suits(call.op, reply) {
+                None
+            } else {
+                Some(Misuse::Unsuited)
+            }
         }
     }
 }
