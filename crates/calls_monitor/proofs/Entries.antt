@@ -1,7 +1,5 @@
 -- Lists by index.
-use Rattle.std.proofs.Common.{◌≡◌, ℕ, zero, suc}
-use Rattle.std.proofs.Common.{List, [], ◌∷◌, set, slice_get, Some}
-use Rattle.std.proofs.Common.{refl}
+use Rattle.std.proofs.Common.{◌≡◌, ℕ, zero, suc, List, [], ◌∷◌, set, slice_get, Some, refl}
 
 pub get_set : {X : Type 0} (xs : List X) (k : ℕ) (x y : X) → slice_get xs k ≡ Some x
     → slice_get (set xs k y) k ≡ Some y

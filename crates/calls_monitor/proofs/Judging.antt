@@ -1,12 +1,10 @@
 -- One event of a whole history.
 use Rattle.std.proofs.Common.{◌≡◌, ℕ, zero, suc, ◌^◌, ◌<◌, ◌≤◌, true, false, ◌==◌, cond, arith}
-use Rattle.std.proofs.Common.{List, [], ◌∷◌, ◌++◌, length, map, set, get_or, slice_get, Option}
-use Rattle.std.proofs.Common.{Some, None}
-use Rattle.std.proofs.Common.{Result, Ok, Err, refl, ap, sym, ◌∙◌, subst}
-use Rattle.std.specs.List.{position, remove}
+use Rattle.std.proofs.Common.{List, [], ◌∷◌, ◌++◌, length, set, get_or, slice_get, Option, Some}
+use Rattle.std.proofs.Common.{None, Result, Ok, Err, refl, ap, sym, ◌∙◌, subst}
+use Rattle.std.specs.List.{remove}
 use Rattle.std.proofs.lemmas.Bool.{eq-eqb, ne_eqb, eqb-true}
 use Rattle.std.proofs.lemmas.Option.{none-some, same_Some}
-use Rattle.std.proofs.lemmas.List.{map-append, length-map}
 use Rattle.std.proofs.lemmas.List.Sums.{length-filter, count_by-le-length}
 use Rattle.calls_core.specs.declared.history.TheConstants.{WORKERS}
 use Rattle.calls_core.specs.declared.history.Kind.{Kind}
@@ -31,8 +29,7 @@ use Rattle.calls_monitor.specs.declared.monitor.Rejection.{Rejection}
 use Rattle.calls_monitor.specs.declared.monitor.Rejection.TheVariants.{Refused, Full}
 use Rattle.calls_monitor.specs.Refusals.{Explains}
 use Rattle.calls_monitor.specs.Monitors.{IsWatched, IsFine, Verdict}
-use Rattle.calls_monitor.specs.kept.Watching.{WatchesOf, Watches, IsHandedTo}
-use Rattle.calls_monitor.specs.kept.Watching.{IsPassed}
+use Rattle.calls_monitor.specs.kept.Watching.{WatchesOf, Watches, IsHandedTo, IsPassed}
 use Rattle.calls_monitor.proofs.Begun.{begun_few}
 use Rattle.calls_monitor.proofs.Objects.{order_of_watch, none_of, roomy}
 use Rattle.calls_monitor.proofs.Entries.{get_set}

@@ -22,8 +22,7 @@ use Rattle.calls_counts.proofs.Watching.{taken_by}
 use Rattle.calls_tickets.specs.declared.monitor.Monitor.{Monitor as TicketMonitor}
 use Rattle.calls_tickets.specs.Monitors.{IsAccepted as IsTicketed, Watches as TicketWatches}
 use Rattle.calls_semaphores.specs.declared.monitor.Monitor.{Monitor as UnitMonitor}
-use Rattle.calls_semaphores.specs.Monitors.{Grows, UpTo}
-use Rattle.calls_semaphores.specs.Monitors.{Judges as UnitJudges}
+use Rattle.calls_semaphores.specs.Monitors.{Grows, UpTo, Judges as UnitJudges}
 use Rattle.calls_semaphores.specs.declared.fault.Fault.{Fault}
 use Rattle.calls_monitor.specs.declared.object.Watch.{Watch}
 use Rattle.calls_monitor.specs.declared.object.Watch.TheVariants.{Count, Ticket, Units, Nothing}

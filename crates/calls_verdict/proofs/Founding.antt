@@ -29,11 +29,9 @@ use Rattle.calls_verdict.specs.declared.verdict.Verdict.TheVariants.{Linearizabl
 use Rattle.calls_verdict.specs.declared.verdict.Verdict.TheVariants.{NotDecided}
 use Rattle.calls_verdict.specs.declared.verdict.Decision.TheVariants as decision
 use Rattle.calls_verdict.specs.declared.findings.Findings.{Findings}
-use Rattle.calls_verdict.specs.Faults.{Shows, ShowsUndecided}
-use Rattle.calls_verdict.specs.Verdicts.{IsDecision, IsCleanBefore, IsOrderedBefore}
-use Rattle.calls_verdict.specs.Verdicts.{IsVerdict}
+use Rattle.calls_verdict.specs.Faults.{Shows, ShowsUndecided, IsDecided}
+use Rattle.calls_verdict.specs.Verdicts.{IsDecision, IsCleanBefore, IsOrderedBefore, IsVerdict}
 use Rattle.calls_verdict.specs.Verdicts.{IsClear, AreClear}
-use Rattle.calls_verdict.specs.Faults.{IsDecided}
 use Rattle.calls_verdict.specs.kept.Findings.{limit, IsRefused, IsOpen, ArePlaced}
 use Rattle.calls_verdict.specs.kept.Findings.{AreFound, IsEarlier}
 use Rattle.calls_verdict.proofs.Untils.{part_until}

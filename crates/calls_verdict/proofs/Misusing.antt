@@ -1,8 +1,7 @@
 -- Whether events are still a history with one more event.
 use Rattle.std.proofs.Common.{◌≡◌, ℕ, zero, suc, ◌+◌, ◌-◌, ◌<◌, ◌≤◌, ◌↔◌, inl, inr, Bool, true}
-use Rattle.std.proofs.Common.{false}
-use Rattle.std.proofs.Common.{List, length, get_or, Option, Some, None, IsTrue, nat_le}
-use Rattle.std.proofs.Common.{ap, sym, ◌∙◌, arith, subst, slice_get}
+use Rattle.std.proofs.Common.{false, List, length, get_or, Option, Some, None, IsTrue, nat_le, ap}
+use Rattle.std.proofs.Common.{sym, ◌∙◌, arith, subst, slice_get}
 use Rattle.std.proofs.lemmas.Bool.{cases_lt, leb-true, le-leb, false≢true}
 use Rattle.std.proofs.lemmas.Option.{get_or_from_slice_get, slice_get-get_or}
 use Rattle.calls_core.specs.declared.history.Kind.{Kind}

@@ -1,12 +1,10 @@
 -- What the state of a monitor represents, and what its parts do.
 use Rattle.std.specs.Prelude.{◌≡◌, ℕ, ◌+◌, ◌-◌, ◌^◌, ◌<◌, ◌≤◌, List, ◌∷◌, length, set}
 use Rattle.std.specs.Prelude.{Some, slice_get, Result, Ok, Err}
-use Rattle.calls_core.specs.declared.history.TheConstants.{WORKERS}
 use Rattle.calls_core.specs.declared.history.Kind.{Kind}
 use Rattle.calls_core.specs.declared.history.Kind.TheVariants.{Eventcount, Sequencer, Semaphores}
 use Rattle.calls_core.specs.declared.history.Kind.TheVariants.{Cell, Database}
 use Rattle.calls_core.specs.declared.history.Action.{Action}
-use Rattle.calls_core.specs.declared.history.Action.TheVariants.{Invoke, Respond}
 use Rattle.calls_core.specs.declared.history.Event.{Event}
 use Rattle.calls_core.specs.Histories.{pending_calls, completed_calls, IsHistoryOf, part}
 use Rattle.calls_core.specs.Pending.{HasRoom}

@@ -1,5 +1,4 @@
-use Rattle.std.proofs.Common.{◌≡◌, None, Some, subst, sym, arith, ◌∙◌, ap, length, ◌≤◌, ◌++◌, ◌∷◌}
-use Rattle.std.proofs.Common.{[]}
+use Rattle.std.proofs.Common.{◌≡◌, None, subst, sym, arith, ◌∙◌, ap, length, ◌≤◌, ◌++◌, ◌∷◌, []}
 use Rattle.std.proofs.lemmas.Bool.{eqb-false}
 use Rattle.calls_core.specs.declared.history.TheConstants.{WORKERS}
 use Rattle.calls_core.specs.Pending.{IsPendingOf}
