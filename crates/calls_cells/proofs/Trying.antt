@@ -11,11 +11,10 @@ use Rattle.calls_core.specs.Histories.{clock, IsHistoryOf, pending_calls}
 use Rattle.calls_core.specs.Linearizations.{KeepsOrder}
 use Rattle.calls_core.specs.Beginnings.{past_at}
 use Rattle.calls_core.specs.Outcomes.{HasOrderOf, IsFirstFault}
-use Rattle.calls_core.proofs.Beginnings.{past_split}
+use Rattle.calls_core.proofs.Beginnings.{past_split, clock_at}
 use Rattle.calls_core.proofs.Lists.{all_pairs_from_each}
 use Rattle.calls_serial.specs.Outcomes.{AreOverlapping}
 use Rattle.calls_cells.specs.Faults.{DoOverlap}
-use Rattle.calls_distinct.proofs.Earlier.{clock_earlier}
 
 -- two puts that overlap at a moment of the events do so in the reversed history
 pub overlap_shown : (events : List Event) (o p : PendingCall) → AreOverlapping events o p
@@ -26,14 +25,6 @@ overlap_shown events o p h = record {
   is = past_split h.moment events;
   both = h.both;
 }
-
-clock_at : (kind : Kind) (i : ℕ) (events : List Event) → IsHistoryOf kind (reverse events)
-    → clock (past_at i events) ≤ clock (reverse events)
-clock_at kind i events h =
-    let is = past_split i events in
-    subst (λ zs. clock (past_at i events) ≤ clock zs) (sym is)
-    (clock_earlier kind (reverse (drop i events)) (past_at i events)
-    (subst (IsHistoryOf kind) is h))
 
 pub before_end : (kind : Kind) (i end : ℕ) (events : List Event) → IsHistoryOf kind (reverse events)
     → clock (reverse events) ≤ end → clock (past_at i events) ≤ end

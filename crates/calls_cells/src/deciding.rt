@@ -1,5 +1,5 @@
 //! Decides histories of a cell by two classes: distinct values and serial puts.
-ghost use Rattle.std.specs.Prelude.{◌≡◌, ◌+◌, ◌<◌, ◌≤◌, length, reverse, take, IfOk};
+ghost use Rattle.std.specs.Prelude.{◌≡◌, ◌≤◌, length, reverse, take, IfOk};
 ghost use Rattle.calls_core.specs.declared.history.Kind.TheVariants.{Cell};
 ghost use Rattle.calls_core.specs.Histories.{IsHistoryOf, clock};
 ghost use Rattle.calls_core.specs.Beginnings.{past_at};
@@ -46,15 +46,6 @@ fn try_both(alloc: Global, events: &Part<'_, '_>, end: usize) -> Result<Try, All
     }
 }
 
-/// Returns an index between two others, halfway.
-fn middle(low: usize, high: usize) -> usize
-    requires apart { low + 1 < high }
-    ensures above { low < result }
-    ensures below { result < high }
-{
-    low + (high - low) / 2
-}
-
 /// Finds, by bisection, the first event with which nothing is decided, or a fault before it.
 ///
 /// Nothing is decided of all events.
@@ -73,7 +64,7 @@ fn decide_beginning(
     let mut low = 0;
     let mut high = events.len();
     while high - low > 1 {
-        let mid = middle(low, high);
+        let mid = low + (high - low) / 2;
         let beginning = events.first(mid);
         match try_both(alloc, &beginning, end)? {
             Try::Ordered(_) => low = mid,

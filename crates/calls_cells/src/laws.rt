@@ -1,31 +1,29 @@
 //! Theorems on every history of a cell. Each is the contract of a function that does nothing.
-ghost use Rattle.calls_cells.specs.Laws.{AFaultLeavesNoOrder, AnyFaultLeavesNoOrder};
-ghost use Rattle.calls_cells.specs.Laws.{EveryHistoryIsDecided};
-ghost use Rattle.calls_cells.specs.Laws.{ItStaysUndecided, ADatabaseIsACell};
+ghost use Rattle.calls_cells.specs.Laws as laws;
 
 /// States that a history that shows a fault has no linearization.
 pub fn a_fault_leaves_no_order()
-    ensures { AFaultLeavesNoOrder }
+    ensures { laws.AFaultLeavesNoOrder }
 {}
 
 /// States the same of a fault whose gets are any list, as `every_history_is_decided` has them.
 pub fn any_fault_leaves_no_order()
-    ensures { AnyFaultLeavesNoOrder }
+    ensures { laws.AnyFaultLeavesNoOrder }
 {}
 
 /// States that each history has a linearization, shows a fault, or shows why it isn't decided.
 pub fn every_history_is_decided()
-    ensures { EveryHistoryIsDecided }
+    ensures { laws.EveryHistoryIsDecided }
 {}
 
 /// States that what isn't decided stays so, whatever follows.
 pub fn it_stays_undecided()
-    ensures { ItStaysUndecided }
+    ensures { laws.ItStaysUndecided }
 {}
 
 /// States that what is found of the history of a cell holds of a database with the same history.
 ///
 /// A history of a database is one of a cell.
 pub fn a_database_is_a_cell()
-    ensures { ADatabaseIsACell }
+    ensures { laws.ADatabaseIsACell }
 {}

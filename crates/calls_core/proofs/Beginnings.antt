@@ -1,6 +1,6 @@
 -- A prefix of a history that has a linearization has one.
 use Rattle.std.proofs.Common.{◌≡◌, ℕ, zero, suc, ◌+◌, ◌<◌, ◌≤◌, ◌⊎◌, inl, inr, true, false, ◌==◌}
-use Rattle.std.proofs.Common.{cond, Bool}
+use Rattle.std.proofs.Common.{cond, Bool, get_or, length}
 use Rattle.std.proofs.Common.{List, [], ◌∷◌, ◌++◌, map, Option, Some, None, refl, ap, sym}
 use Rattle.std.proofs.Common.{◌∙◌, arith, subst, append_assoc, append-nil, reverse, take, drop}
 use Rattle.std.proofs.Common.{nat_lt}
@@ -8,7 +8,7 @@ use Rattle.std.specs.List.{AllPairs}
 use Rattle.std.specs.List.Sorted.{IsPermutation}
 use Rattle.std.proofs.lemmas.Bool.{eq-eqb, ne_eqb, cases_lt}
 use Rattle.std.proofs.lemmas.Option.{same_Some, none-some}
-use Rattle.std.proofs.lemmas.List.{take-append-drop, reverse-append}
+use Rattle.std.proofs.lemmas.List.{take-append-drop, reverse-append, take_more, take_all}
 use Rattle.std.proofs.lemmas.List.Sorted.{All-permutation, IsPermutation-cons}
 use Rattle.std.proofs.lemmas.List.Sorted.{IsPermutation-trans, IsPermutation-sym}
 use Rattle.std.proofs.lemmas.List.Sorted.{IsPermutation-append_left, IsPermutation-append_right}
@@ -436,6 +436,31 @@ pub history_at : (kind : Kind) (i : ℕ) (events : List Event) → IsHistoryOf k
     → IsHistoryOf kind (past_at i events)
 history_at kind i events h = history_of_earlier kind (reverse (drop i events)) (past_at i events)
     (subst (IsHistoryOf kind) (past_split i events) h)
+
+pub past_next : (events : List Event) (i : ℕ) (d : Event) → i < length events
+    → past_at (i + 1) events ≡ get_or events i d ∷ past_at i events
+past_next events i d lt = ap reverse (take_more events i d lt) ∙ reverse-append (take i events)
+    (get_or events i d ∷ [])
+
+pub past_all : (events : List Event) (i : ℕ) → length events ≤ i → past_at i events ≡ reverse events
+past_all events i le = ap reverse (take_all i events le)
+
+pub history_next : (kind : Kind) (i : ℕ) (events : List Event) (d : Event) → i < length events
+    → IsHistoryOf kind (reverse events) → IsHistoryOf kind (get_or events i d ∷ past_at i events)
+history_next kind i events d lt h = subst (IsHistoryOf kind) (past_next events i d lt)
+    (history_at kind (i + 1) events h)
+
+pub clock_earlier : (kind : Kind) (late past : List Event) → IsHistoryOf kind (late ++ past)
+    → clock past ≤ clock (late ++ past)
+clock_earlier kind [] past h = omega arith
+clock_earlier kind (x ∷ late) past h = (let le = clock_earlier kind late past h.2 in
+    let lt : clock (late ++ past) ≤ x.at = h.0 in omega arith)
+
+pub clock_at : (kind : Kind) (i : ℕ) (events : List Event) → IsHistoryOf kind (reverse events)
+    → clock (past_at i events) ≤ clock (reverse events)
+clock_at kind i events h = subst (λ past. clock (past_at i events) ≤ clock past)
+    (sym (past_split i events)) (clock_earlier kind (reverse (drop i events)) (past_at i events)
+    (subst (IsHistoryOf kind) (past_split i events) h))
 
 pub order_at_beginning : (kind : Kind) (i : ℕ) (events : List Event)
     → IsHistoryOf kind (reverse events) → HasOrderOf kind (reverse events)

@@ -6,3 +6,5 @@ pub mod Drawing
 pub mod Settling
 pub mod Beginnings
 mod Placing
+pub mod Finding
+pub mod Ranges

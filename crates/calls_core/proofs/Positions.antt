@@ -242,6 +242,12 @@ are_calls_of kind past h =
       pending_apart = c.pending_apart;
     }
 
+pub early_calls : (kind : Kind) (past : List Event) → IsHistoryOf kind past
+    → Each (λ (c : Call). c.last < clock past) (completed_calls past)
+early_calls kind past h = each_weaker (IsCallOf kind (clock past))
+    (λ (c : Call). c.last < clock past) (λ c k. k.early) (completed_calls past)
+    (are_calls_of kind past h).completed
+
 pub histories_have_calls : (kinds : List Kind) (past : List Event) → IsHistory kinds past
     → AreCalls kinds (completed_calls past) (pending_calls past) (clock past)
 histories_have_calls kinds past h =

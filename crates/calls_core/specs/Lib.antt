@@ -3,6 +3,7 @@ pub mod Histories
 pub mod Linearizations
 pub mod Completions
 pub mod Calls
+pub mod Pending
 pub mod Points
 pub mod Beginnings
 pub mod Outcomes

@@ -93,7 +93,19 @@ pub struct PendingCall {
 }
 
 impl PendingCall {
-    ghost use Rattle.calls_core.specs.Histories.{completion};
+    ghost use Rattle.calls_core.specs.Histories.{completion, invoked_by};
+
+    /// Returns the call that an invocation begins.
+    pub fn new(event: Event, object: usize, op: Op) -> PendingCall
+        ensures { result ≡ invoked_by event object op }
+    {
+        PendingCall {
+            worker: event.worker,
+            object,
+            op,
+            first: event.at,
+        }
+    }
 
     /// Returns the call with this reply, and with its response at position `last`.
     pub fn complete(self, reply: Reply, last: usize) -> Call

@@ -4,8 +4,10 @@
 
 mod history;
 mod part;
+mod pending;
 mod placed;
 
 pub use history::{Action, Call, Event, Kind, Op, PendingCall, Placed, Reply, WORKERS};
 pub use part::{Part, PartList};
+pub use pending::{NotedCall, find, find_noted, push_range, take_pending};
 pub use placed::PlacedCalls;

@@ -27,17 +27,6 @@ impl Model for PlacedCalls {
     ghost invariant = { λ p. ArePlacedOne p.latest p.list.items };
 }
 
-/// Returns the point of a call that follows one whose point is `latest`.
-fn next_point(latest: usize, call: &Call) -> Result<usize, AllocError>
-    ensures { IfOk result (λ point. point ≡ max latest (call.now.first + 1)) }
-{
-    // (the position of the response is greater, so the sum exists)
-    match call.first.checked_add(1) {
-        Some(next) => Ok(latest.max(next)),
-        None => Err(AllocError),
-    }
-}
-
 impl PlacedCalls {
     /// Returns an empty list.
     pub fn new(alloc: Global) -> PlacedCalls
@@ -53,7 +42,9 @@ impl PlacedCalls {
     pub fn push(&mut self, call: Call) -> Result<(), AllocError>
         ensures { OnOk result (self.new ≡ self.old ++ call ∷ []) }
     {
-        let point = next_point(self.latest, &call)?;
+        // (the position of the response is greater, so the sum exists)
+        let next = call.first.checked_add(1).ok_or(AllocError)?;
+        let point = self.latest.max(next);
         self.list.push(Placed { point, call })?;
         self.latest = point;
         Ok(())

@@ -8,6 +8,7 @@ use Rattle.calls_core.specs.declared.history.Call.{Call}
 use Rattle.calls_core.specs.Histories.{clock, IsHistoryOf}
 use Rattle.calls_core.specs.Beginnings.{past_at}
 use Rattle.calls_core.specs.Outcomes.{IsOrderOf, HasOrderOf}
+use Rattle.calls_core.proofs.Beginnings.{past_split, history_at}
 use Rattle.calls_counts.specs.declared.fault.Fault.{Fault}
 use Rattle.calls_counts.specs.declared.outcome.Outcome.{Outcome}
 use Rattle.calls_counts.specs.declared.outcome.Outcome.TheVariants.{Ordered, Refused}
@@ -17,7 +18,6 @@ use Rattle.calls_counts.specs.Outcomes.{IsOutcome}
 use Rattle.calls_counts.specs.Laws.{Agrees, AMonitorAgrees}
 use Rattle.calls_counts.proofs.Necessity.{no_order}
 use Rattle.calls_counts.proofs.Lasting.{shows_next}
-use Rattle.calls_counts.proofs.Deciding.{past_part, history_upto}
 use Rattle.calls_counts.proofs.Exactly.{every_history}
 
 shows_more : (start : ℕ) (late past : List Event) (f : Fault)
@@ -32,8 +32,8 @@ beginning_ordered : (start : ℕ) (events : List Event) (end : ℕ) (cs : List C
     → IsHistoryOf (Eventcount start) (reverse events) → IsOrderOf (Eventcount start)
     (reverse events) end cs → HasOrderOf (Eventcount start) (past_at j events)
 beginning_ordered start events end cs j h o =
-    let part = past_part events j in
-    elim (every_history start (past_at j events) (history_upto start events j h)) [
+    let part = past_split j events in
+    elim (every_history start (past_at j events) (history_at (Eventcount start) j events h)) [
       | inl order ↦ order
       | inr fault ↦
           absurd (no_order start (reverse events) fault.0 end cs h
@@ -55,7 +55,7 @@ agrees start events end (Refused i f) j (Ok u) h is yes' no' = λ same.
     (let order = yes' u refl in
     let shows = subst (λ k. Shows start (past_at (k + 1) events) f) (sym same) is.shows in
     no_order start (past_at (j + 1) events) f (clock (past_at (j + 1) events)) order.0
-    (history_upto start events (j + 1) h) shows order.1)
+    (history_at (Eventcount start) (j + 1) events h) shows order.1)
 agrees start events end (Refused i f) j (Err r) h is yes' no' =
     elim (cases_lt j i) [
       | inl lt ↦ absurd (no' r refl (is.before (j + 1) (omega arith)))

@@ -13,14 +13,13 @@ use Rattle.calls_core.specs.declared.history.Reply.TheVariants.{Done}
 use Rattle.calls_core.specs.declared.history.PendingCall.{PendingCall}
 use Rattle.calls_core.specs.declared.history.Call.{Call}
 use Rattle.calls_counts.specs.declared.state.Slot.{Slot}
-use Rattle.calls_counts.specs.declared.state.NotedCall.{NotedCall}
 use Rattle.calls_counts.specs.declared.state.PlacedRead.{PlacedRead}
 use Rattle.calls_core.specs.Histories.{completion}
 use Rattle.calls_core.specs.Linearizations.{answered_one, answered_calls}
 use Rattle.calls_core.specs.Calls.{Earlier}
 use Rattle.calls_counts.specs.Faults.{is_advance}
 use Rattle.calls_core.specs.Lists.{Each, EachFrom, EachPair}
-use Rattle.calls_counts.specs.ScanStates.{free, noted_calls, moments, may_take, takers, Enough}
+use Rattle.calls_counts.specs.ScanStates.{free, moments, may_take, takers, Enough}
 use Rattle.calls_counts.specs.ScanStates.{IsSlotAt, IsNotedCall, IsReadAt, IsState}
 use Rattle.calls_counts.specs.Scanning.{FreeBelow, NoneFree, slot_of_call, IsFilled, IsIdle, IsCompleting}
 use Rattle.calls_counts.specs.Scanning.{Skips}
@@ -28,6 +27,8 @@ use Rattle.calls_core.proofs.Counting.{one_no, count_cons}
 use Rattle.calls_core.proofs.Lists.{each_weaker, each_append, each_right, each_from_weaker}
 use Rattle.calls_core.proofs.Lists.{each_from_left, each_from_right, each_from_append}
 use Rattle.calls_core.proofs.Lists.{each_pair_across}
+use Rattle.calls_core.specs.declared.pending.NotedCall.{NotedCall}
+use Rattle.calls_core.specs.Pending.{noted_calls}
 use Rattle.calls_counts.proofs.Slots.{slot_later, pending_later, read_later}
 use Rattle.calls_counts.proofs.Invoking.{early_moments}
 use Rattle.calls_counts.proofs.Filling.{moments_same, state_filled_by}
@@ -292,13 +293,13 @@ module _ (slots : List Slot) (next : List ℕ) (pending : List NotedCall) (end :
   -- an advance that takes a slot, if one is free
   pub moves_fill : (filling : List Slot) (known : List ℕ) (b : Bool)
       → is_advance (get_or pending i d).call.op ≡ true
+      → (call : Call) → call ≡ completion end Done (get_or pending i d).call
       → (Skips now skips → Skips filling known × MatchBool b
-      (IsFilled now filling (get_or pending i d).noted
-      (completion end Done (get_or pending i d).call)) ((filling ≡ now)
+      (IsFilled now filling (get_or pending i d).noted call) ((filling ≡ now)
       × NoneFree now (get_or pending i d).noted))
       → later ≡ filling → longer ≡ known → Completing slots next pending end later longer
       (take (i + 1) pending) (drop (i + 1) pending)
-  moves_fill filling known b adds fill same known_same =
+  moves_fill filling known b adds call is fill same known_same =
       subst (λ zs. Completing slots next pending end zs longer (take (i + 1) pending)
       (drop (i + 1) pending)) (sym same)
       (subst (λ zs. Completing slots next pending end filling zs (take (i + 1) pending)
@@ -306,10 +307,10 @@ module _ (slots : List Slot) (next : List ℕ) (pending : List NotedCall) (end :
       (moves_on slots next pending end now skips filling known i d lt h
       (λ s. let f = fill s in (
         f.0,
-        elim (either_way (IsFilled now filling (get_or pending i d).noted
-            (completion end Done (get_or pending i d).call)) ((filling ≡ now)
+        elim (either_way (IsFilled now filling (get_or pending i d).noted call) ((filling ≡ now)
             × NoneFree now (get_or pending i d).noted) b f.1) [
-              | inl slot_of_call ↦ inl (adds, slot_of_call)
+              | inl filled ↦ inl (adds, subst (IsFilled now filling
+                  (get_or pending i d).noted) is filled)
               | inr none ↦ inr (none.0, λ e. none.1)
             ],
       ))))

@@ -16,7 +16,6 @@ use Rattle.calls_core.specs.declared.history.Event.{Event}
 use Rattle.calls_core.specs.declared.history.Call.{Call}
 use Rattle.calls_counts.specs.declared.fault.Fault.{Fault}
 use Rattle.calls_counts.specs.declared.state.Slot.{Slot}
-use Rattle.calls_counts.specs.declared.state.NotedCall.{NotedCall}
 use Rattle.calls_counts.specs.declared.state.PlacedRead.{PlacedRead}
 use Rattle.calls_counts.specs.declared.scan.Scan.{Scan}
 use Rattle.calls_core.specs.Histories.{clock, completion, pending_calls, completed_calls}
@@ -27,9 +26,11 @@ use Rattle.calls_core.specs.Beginnings.{past_at}
 use Rattle.calls_core.specs.Outcomes.{IsOrderOf, HasOrderOf}
 use Rattle.calls_core.specs.Lists.{Each, EachFrom, EachPair}
 use Rattle.calls_core.proofs.Lists.{each_append}
+use Rattle.calls_core.specs.declared.pending.NotedCall.{NotedCall}
+use Rattle.calls_core.specs.Pending.{noted_calls}
+use Rattle.calls_core.proofs.Beginnings.{past_next, history_next}
 use Rattle.calls_counts.specs.Faults.{is_advance, invokes_advance, Shows}
 use Rattle.calls_counts.specs.Orders.{order_from, IsOrdering}
-use Rattle.calls_counts.specs.ScanStates.{noted_calls}
 use Rattle.calls_counts.specs.Scanning.{FreeBelow, slot_of_call, IsCompleting, Holds, ScanKeeps, TakesIn}
 use Rattle.calls_counts.proofs.Events.{CallFits, pending_fit, completed_fit, answered_fit}
 use Rattle.calls_counts.proofs.Events.{pending_rise}
@@ -39,37 +40,6 @@ use Rattle.calls_counts.proofs.Completing.{completing_passed, completed}
 use Rattle.calls_counts.proofs.Ordering.{legal_order}
 
 -- THE HISTORY BEFORE EACH EVENT
-
-history_of : (start : ℕ) (late past : List Event) → IsHistoryOf (Eventcount start) (late ++ past)
-    → IsHistoryOf (Eventcount start) past
-history_of start [] past h = h
-history_of start (x ∷ late) past h = history_of start late past h.2
-
-pub past_next : (events : List Event) (i : ℕ) (d : Event) → i < length events
-    → past_at (i + 1) events ≡ get_or events i d ∷ past_at i events
-past_next events i d lt = ap reverse (take_more events i d lt) ∙ reverse-append (take i events)
-    (get_or events i d ∷ [])
-
-pub past_part : (events : List Event) (i : ℕ) → reverse events ≡ reverse (drop i events)
-    ++ past_at i events
-past_part events i = ap reverse (sym (take-append-drop i events)) ∙ reverse-append (take i events)
-    (drop i events)
-
--- each prefix of a history is a history
-pub history_upto : (start : ℕ) (events : List Event) (i : ℕ)
-    → IsHistoryOf (Eventcount start) (reverse events) → IsHistoryOf (Eventcount start)
-    (past_at i events)
-history_upto start events i h = history_of start (reverse (drop i events)) (past_at i events)
-    (subst (IsHistoryOf (Eventcount start)) (past_part events i) h)
-
-pub history_at : (start : ℕ) (events : List Event) (i : ℕ) (d : Event) → i < length events
-    → IsHistoryOf (Eventcount start) (reverse events) → IsHistoryOf (Eventcount start)
-    (get_or events i d ∷ past_at i events)
-history_at start events i d lt h = subst (IsHistoryOf (Eventcount start)) (past_next events i d lt)
-    (history_upto start events (i + 1) h)
-
-pub past_all : (events : List Event) (i : ℕ) → length events ≤ i → past_at i events ≡ reverse events
-past_all events i le = ap reverse (take_all i events le)
 
 -- no more advances were invoked than there are events
 pub begun_within : (start : ℕ) (events : List Event) (i begun : ℕ) (slots : List Slot)
@@ -112,14 +82,14 @@ module _ (start : ℕ) (events : List Event) (i : ℕ) (d : Event) (lt : i < len
       subst (λ p. Shows start p f) (sym (past_next events i d lt))
       (MatchOption-at_some (ScanKeeps start (get_or events i d ∷ past_at i events) new)
       (Shows start (get_or events i d ∷ past_at i events)) f e
-      (took (past_at i events) (history_at start events i d lt h) k))
+      (took (past_at i events) (history_next (Eventcount start) i events d lt h) k))
 
   pub took_next : o ≡ None → ScanKeeps start (past_at (i + 1) events) new
   took_next e =
       subst (λ p. ScanKeeps start p new) (sym (past_next events i d lt))
       (MatchOption-at_none (ScanKeeps start (get_or events i d ∷ past_at i events) new)
       (Shows start (get_or events i d ∷ past_at i events)) e
-      (took (past_at i events) (history_at start events i d lt h) k))
+      (took (past_at i events) (history_next (Eventcount start) i events d lt h) k))
 
 -- THE END
 
@@ -263,10 +233,3 @@ kept_has_order start past begun slots pending reads history h =
             is = refl;
           }),
     )
-
-pub upto : (P : ℕ → Type 0) (i : ℕ) → ((k : ℕ) → k < i → P k) → P i → (k : ℕ) → k ≤ i → P k
-upto P i h here k le = elim (cases_lt k i) [
-  | inl lt ↦ h k lt
-  | inr ge ↦
-      (let same : i ≡ k = omega arith in subst P same here)
-]

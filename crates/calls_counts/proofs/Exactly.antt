@@ -19,7 +19,6 @@ use Rattle.calls_core.specs.declared.history.Call.{Call}
 use Rattle.calls_counts.specs.declared.fault.Fault.{Fault}
 use Rattle.calls_counts.specs.declared.fault.Fault.TheVariants.{Below, Few, Many, Since}
 use Rattle.calls_counts.specs.declared.state.Slot.{Slot}
-use Rattle.calls_counts.specs.declared.state.NotedCall.{NotedCall}
 use Rattle.calls_counts.specs.declared.state.PlacedRead.{PlacedRead}
 use Rattle.calls_core.specs.Histories.{pending_of, without, invoked_by, pending_calls, completion}
 use Rattle.calls_core.specs.Histories.{Suits, IsNextOf, IsHistoryOf}
@@ -27,10 +26,12 @@ use Rattle.calls_counts.specs.CountRuns.{CountGives}
 use Rattle.calls_counts.specs.Faults.{is_advance, least, most, Contradicts, made_between, Shows}
 use Rattle.calls_counts.specs.Laws.{EveryHistoryIsDecided}
 use Rattle.calls_core.specs.Lists.{Each}
-use Rattle.calls_counts.specs.ScanStates.{noted_calls, taken_calls, placed_calls}
-use Rattle.calls_counts.specs.Scanning.{IsCallAt, slot_of_call, IsNew, IsFewer, IsObserved, IsRefused}
+use Rattle.calls_counts.specs.ScanStates.{taken_calls, placed_calls}
+use Rattle.calls_counts.specs.Scanning.{slot_of_call, IsNew, IsFewer, IsObserved, IsRefused}
 use Rattle.calls_counts.specs.Scanning.{Holds}
 use Rattle.calls_core.proofs.Counting.{one}
+use Rattle.calls_core.specs.declared.pending.NotedCall.{NotedCall}
+use Rattle.calls_core.specs.Pending.{noted_calls, IsNotedOf}
 use Rattle.calls_counts.proofs.Observing.{NotFewer, many_shown, placed_gives}
 use Rattle.calls_counts.proofs.Stepping.{invoked_into, turn, filled_into, forced_into}
 use Rattle.calls_counts.proofs.Stepping.{observed_into, refused_into, noted_in, Turn}
@@ -40,13 +41,13 @@ use Rattle.calls_counts.proofs.Lasting.{shows_next}
 -- THE PENDING CALL OF A WORKER
 
 call_at : (w : ℕ) (pending : List NotedCall) (o : PendingCall)
-    → pending_of w (noted_calls pending) ≡ Some o → (i : ℕ) × IsCallAt pending w i
+    → pending_of w (noted_calls pending) ≡ Some o → (i : ℕ) × IsNotedOf pending w i
 call_at w [] o e = absurd (none-some o e)
 call_at w (u ∷ pending) o e = go (u.call.worker == w) refl e (λ k. call_at w pending o k)
   where
     go : (b : Bool) → (u.call.worker == w) ≡ b → pending_of w (noted_calls (u ∷ pending)) ≡ Some o
-        → (pending_of w (noted_calls pending) ≡ Some o → (i : ℕ) × IsCallAt pending w i) → (i : ℕ)
-        × IsCallAt (u ∷ pending) w i
+        → (pending_of w (noted_calls pending) ≡ Some o → (i : ℕ) × IsNotedOf pending w i) → (i : ℕ)
+        × IsNotedOf (u ∷ pending) w i
     go true own k ih = (
       zero,
       record {

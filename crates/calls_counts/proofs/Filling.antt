@@ -9,7 +9,6 @@ use Rattle.calls_core.specs.declared.history.Op.TheVariants.{Advance}
 use Rattle.calls_core.specs.declared.history.Reply.TheVariants.{Done}
 use Rattle.calls_core.specs.declared.history.Call.{Call}
 use Rattle.calls_counts.specs.declared.state.Slot.{Slot}
-use Rattle.calls_counts.specs.declared.state.NotedCall.{NotedCall}
 use Rattle.calls_counts.specs.declared.state.PlacedRead.{PlacedRead}
 use Rattle.calls_counts.specs.Faults.{is_advance}
 use Rattle.calls_core.specs.Lists.{Each, EachFrom, EachPair}
@@ -22,6 +21,7 @@ use Rattle.calls_core.proofs.Lists.{each_from_weaker, each_weaker, each_append, 
 use Rattle.calls_core.proofs.Lists.{each_right, each_from_left, each_from_right, each_from_append}
 use Rattle.calls_core.proofs.Lists.{each_from_past, each_from_none, each_pair_append}
 use Rattle.calls_core.proofs.Lists.{each_pair_left, each_pair_right, each_pair_across}
+use Rattle.calls_core.specs.declared.pending.NotedCall.{NotedCall}
 use Rattle.calls_counts.proofs.Slots.{slot_later, pending_later, read_later, taken_free, taken_some}
 use Rattle.calls_counts.proofs.Slots.{moves_into, count_out, enough_same, enough_less, enough_left}
 use Rattle.calls_counts.proofs.Slots.{enough_right, enough_append}

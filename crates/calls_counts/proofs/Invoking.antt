@@ -10,7 +10,6 @@ use Rattle.std.proofs.lemmas.List.{length-map}
 use Rattle.calls_core.specs.declared.history.PendingCall.{PendingCall}
 use Rattle.calls_core.specs.declared.history.Call.{Call}
 use Rattle.calls_counts.specs.declared.state.Slot.{Slot}
-use Rattle.calls_counts.specs.declared.state.NotedCall.{NotedCall}
 use Rattle.calls_counts.specs.declared.state.PlacedRead.{PlacedRead}
 use Rattle.calls_counts.specs.Faults.{Reached, is_advance, least, lies_between, made_between}
 use Rattle.calls_core.specs.Lists.{Each, EachFrom, EachPair}
@@ -21,6 +20,7 @@ use Rattle.calls_core.proofs.Counting.{one, one_yes, count_cons, count_append, c
 use Rattle.calls_core.proofs.Lists.{each_from_weaker, each_weaker, each_append, each_from_right}
 use Rattle.calls_core.proofs.Lists.{each_from_none, each_both, each_map, each_from_short}
 use Rattle.calls_core.proofs.Lists.{each_pair_right}
+use Rattle.calls_core.specs.declared.pending.NotedCall.{NotedCall}
 use Rattle.calls_counts.proofs.Slots.{slot_later, pending_later, read_later, taken_free}
 use Rattle.calls_counts.proofs.Slots.{enough_more}
 

@@ -16,7 +16,6 @@ use Rattle.calls_core.specs.declared.history.Op.TheVariants.{Advance}
 use Rattle.calls_core.specs.declared.history.Reply.TheVariants.{Done}
 use Rattle.calls_core.specs.declared.history.Call.{Call}
 use Rattle.calls_counts.specs.declared.state.Slot.{Slot}
-use Rattle.calls_counts.specs.declared.state.NotedCall.{NotedCall}
 use Rattle.calls_counts.specs.declared.state.PlacedRead.{PlacedRead}
 use Rattle.calls_counts.specs.CountRuns.{CountGives, count_after, IsCountRun, IsCountOrder}
 use Rattle.calls_counts.specs.Faults.{is_advance}
@@ -31,6 +30,7 @@ use Rattle.calls_counts.proofs.Necessity.{after_one}
 use Rattle.calls_core.proofs.Lists.{each_weaker, each_append, each_map, each_both, each_from_none}
 use Rattle.calls_core.proofs.Lists.{each_filter, each_pair_append, each_pair_filter, each_pair_map}
 use Rattle.calls_core.proofs.Lists.{each_pair_weaker, all_pairs_from_each}
+use Rattle.calls_core.specs.declared.pending.NotedCall.{NotedCall}
 
 -- WHAT A SLOT AND A READ HAVE
 

@@ -10,7 +10,6 @@ use Rattle.std.proofs.lemmas.List.{map-append, length-map}
 use Rattle.std.proofs.lemmas.List.Elements.{filter_map-append}
 use Rattle.calls_core.specs.declared.history.Call.{Call}
 use Rattle.calls_counts.specs.declared.state.Slot.{Slot}
-use Rattle.calls_counts.specs.declared.state.NotedCall.{NotedCall}
 use Rattle.calls_counts.specs.declared.state.PlacedRead.{PlacedRead}
 use Rattle.calls_counts.specs.CountRuns.{CountGives}
 use Rattle.calls_counts.specs.Faults.{is_advance, least}
@@ -23,6 +22,7 @@ use Rattle.calls_core.proofs.Counting.{one, one_no, count_cons}
 use Rattle.calls_core.proofs.Lists.{each_from_weaker, each_weaker, each_append, each_from_append}
 use Rattle.calls_core.proofs.Lists.{each_from_past, each_from_range, each_from_none, each_from_both}
 use Rattle.calls_core.proofs.Lists.{each_map, each_pair_append}
+use Rattle.calls_core.specs.declared.pending.NotedCall.{NotedCall}
 use Rattle.calls_counts.proofs.Slots.{slot_later, pending_later, read_later, moves_into, count_out}
 use Rattle.calls_counts.proofs.Slots.{slots_counted, enough_more, enough_append}
 use Rattle.calls_counts.proofs.Invoking.{early_moments}

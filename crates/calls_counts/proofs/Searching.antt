@@ -11,58 +11,15 @@ use Rattle.std.proofs.lemmas.List.{take-append-drop, set_split, length-take-le}
 use Rattle.std.proofs.lemmas.Option.{slice_get_within, slice_get-get_or, get_or_from_slice_get}
 use Rattle.calls_core.specs.declared.history.Call.{Call}
 use Rattle.calls_counts.specs.declared.state.Slot.{Slot}
-use Rattle.calls_counts.specs.declared.state.NotedCall.{NotedCall}
 use Rattle.calls_core.specs.Histories.{pending_of, without}
 use Rattle.calls_counts.specs.Faults.{is_advance, lies_between, made_between}
-use Rattle.calls_counts.specs.ScanStates.{noted_calls, taken_calls}
-use Rattle.calls_counts.specs.Scanning.{IsCallAt, FreeBelow, NoneFree, IsFirstFree, slot_of_call}
+use Rattle.calls_counts.specs.ScanStates.{taken_calls}
+use Rattle.calls_counts.specs.Scanning.{FreeBelow, NoneFree, IsFirstFree, slot_of_call}
 use Rattle.calls_counts.specs.Scanning.{IsFilled, invoked_before, AreInvocations}
 use Rattle.calls_core.proofs.Counting.{one, one_yes, one_no, count_cons}
 use Rattle.calls_core.proofs.Lists.{each_from_get}
-
--- THE PENDING CALL OF A WORKER
-
-abbrev pub NotHis : List NotedCall → ℕ → ℕ → Type 0
-NotHis pending w k = (u : NotedCall) → slice_get pending k ≡ Some u → (u.call.worker == w) ≡ false
-
-pub not_his : (pending : List NotedCall) (w k : ℕ) (d : NotedCall)
-    → ((get_or pending k d).call.worker ≡ w
-    → ⊥) → NotHis pending w k
-not_his pending w k d h = λ u at. ne_eqb u.call.worker w (λ e.
-    h (ap (λ (z : NotedCall). z.call.worker) (get_or_from_slice_get pending k u d at) ∙ e))
-
-pub none_by : (pending : List NotedCall) (w : ℕ)
-    → ((k : ℕ) → k < length pending → NotHis pending w k)
-    → pending_of w (noted_calls pending) ≡ None
-none_by [] w h = refl
-none_by (u ∷ pending) w h =
-    ap (λ b. cond b (Some u.call) (pending_of w (noted_calls pending)))
-    (h zero (omega arith) u refl) ∙ none_by pending w (λ k lt z at.
-    h (suc k) (omega arith) z at)
-
-pub found_by : (pending : List NotedCall) (w i : ℕ) (d : NotedCall) → i < length pending
-    → (get_or pending i d).call.worker ≡ w → ((k : ℕ) → k < i → NotHis pending w k)
-    → IsCallAt pending w i
-found_by [] w i d lt e h = absurd (omega arith)
-found_by (u ∷ pending) w zero d lt e h =
-    let own : (u.call.worker == w) ≡ true = eq-eqb u.call.worker w e in
-    record {
-      call = u;
-      at = refl;
-      first = ap (λ b. cond b (Some u.call) (pending_of w (noted_calls pending))) own;
-      others = ap (λ b. cond b (noted_calls pending) (u.call ∷ without w (noted_calls pending)))
-          own;
-    }
-found_by (u ∷ pending) w (suc i) d lt e h =
-    let r = found_by pending w i d (omega arith) e (λ k below z at. h (suc k) (omega arith) z at) in
-    let other : (u.call.worker == w) ≡ false = h zero (omega arith) u refl in
-    record {
-      call = r.call;
-      at = r.at;
-      first = ap (λ b. cond b (Some u.call) (pending_of w (noted_calls pending))) other ∙ r.first;
-      others = ap (λ b. cond b (noted_calls pending) (u.call ∷ without w (noted_calls pending)))
-          other ∙ ap (λ os. u.call ∷ os) r.others;
-    }
+use Rattle.calls_core.specs.declared.pending.NotedCall.{NotedCall}
+use Rattle.calls_core.specs.Pending.{noted_calls, IsNotedOf}
 
 -- FREE SLOTS
 

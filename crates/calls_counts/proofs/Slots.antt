@@ -9,13 +9,13 @@ use Rattle.std.proofs.lemmas.List.Sorted.{IsPermutation-cons, IsPermutation-tran
 use Rattle.std.proofs.lemmas.List.Sorted.{IsPermutation-sym, IsPermutation-middle}
 use Rattle.calls_core.specs.declared.history.Call.{Call}
 use Rattle.calls_counts.specs.declared.state.Slot.{Slot}
-use Rattle.calls_counts.specs.declared.state.NotedCall.{NotedCall}
 use Rattle.calls_counts.specs.declared.state.PlacedRead.{PlacedRead}
 use Rattle.calls_counts.specs.Faults.{Source, Reached, lies_between, made_between}
 use Rattle.calls_core.specs.Lists.{EachFrom}
 use Rattle.calls_counts.specs.ScanStates.{free, frees, taken_calls, Fits, Raised, IsSlotAt}
 use Rattle.calls_counts.specs.ScanStates.{IsNotedCall, Enough, IsReadAt}
 use Rattle.calls_core.proofs.Counting.{one, count_cons, count_append}
+use Rattle.calls_core.specs.declared.pending.NotedCall.{NotedCall}
 
 -- WITH MORE CALLS AND A LATER POSITION
 

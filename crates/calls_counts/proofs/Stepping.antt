@@ -25,7 +25,6 @@ use Rattle.calls_core.specs.declared.history.Call.{Call}
 use Rattle.calls_counts.specs.declared.fault.Fault.{Fault}
 use Rattle.calls_counts.specs.declared.fault.Fault.TheVariants.{Below, Few, Many, Since}
 use Rattle.calls_counts.specs.declared.state.Slot.{Slot}
-use Rattle.calls_counts.specs.declared.state.NotedCall.{NotedCall}
 use Rattle.calls_counts.specs.declared.state.PlacedRead.{PlacedRead}
 use Rattle.calls_core.specs.Histories.{clock, pending_of, without, invoked_by, pending_calls}
 use Rattle.calls_core.specs.Histories.{completion, ended_call, completed_calls, Suits, IsNextOf}
@@ -34,14 +33,16 @@ use Rattle.calls_counts.specs.Faults.{Reached, advances_invoked, is_advance, inv
 use Rattle.calls_counts.specs.Faults.{invoked_upto, lies_between, made_between, least, most}
 use Rattle.calls_counts.specs.Faults.{FromSince, FromFew, FromMany, FromBelow, Shows}
 use Rattle.calls_core.specs.Lists.{Each}
-use Rattle.calls_counts.specs.ScanStates.{noted_calls, taken_calls, placed_calls, moments, Fits}
+use Rattle.calls_counts.specs.ScanStates.{taken_calls, placed_calls, moments, Fits}
 use Rattle.calls_counts.specs.ScanStates.{IsSlotAt, IsNotedCall, IsReadAt, IsState}
-use Rattle.calls_counts.specs.Scanning.{IsCallAt, NoneFree, slot_of_call, IsFilled, IsTooLittle}
+use Rattle.calls_counts.specs.Scanning.{NoneFree, slot_of_call, IsFilled, IsTooLittle}
 use Rattle.calls_counts.specs.Scanning.{IsObserved, IsReckoned, IsWrong, IsRefused, Holds, Skips}
 use Rattle.calls_counts.specs.Scanning.{ScanKeeps}
 use Rattle.calls_core.proofs.Counting.{one, count_cons, count_append, count_moved, count_less}
 use Rattle.calls_core.proofs.Counting.{count_none}
 use Rattle.calls_core.proofs.Lists.{each_weaker, each_map, each_from_none, all_from_each}
+use Rattle.calls_core.specs.declared.pending.NotedCall.{NotedCall}
+use Rattle.calls_core.specs.Pending.{noted_calls, IsNotedOf}
 use Rattle.calls_counts.proofs.Invoking.{state_invoked}
 use Rattle.calls_counts.proofs.Filling.{each_middle, state_filled, state_forced}
 use Rattle.calls_counts.proofs.Raising.{state_raised}
@@ -120,7 +121,7 @@ follows_some : (start : ℕ) (r : Reply) (o : Option PendingCall) (p : PendingCa
 follows_some start r o p e h = subst (IsNextOf (Eventcount start) (Respond r)) e h
 
 pub is_returned : (start : ℕ) (past : List Event) (at w : ℕ) (r : Reply) (pending : List NotedCall)
-    (i : ℕ) (k : IsCallAt pending w i) → noted_calls pending ≡ pending_calls past
+    (i : ℕ) (k : IsNotedOf pending w i) → noted_calls pending ≡ pending_calls past
     → IsHistoryOf (Eventcount start) (responding at w r ∷ past)
     → IsReturned past at w r pending i k.call
 is_returned start past at w r pending i k same history =
@@ -432,7 +433,7 @@ pub record Turn (past : List Event) (x : Event) (r : Reply) (pending rest : List
 pub turn : (start : ℕ) (past : List Event) (x : Event) (r : Reply) (a : ℕ) (slots : List Slot)
     (pending rest : List NotedCall) (reads : List PlacedRead) (i : ℕ) (u : NotedCall)
     → x.action ≡ Respond r
-    → IsCallAt pending x.worker i → u ≡ get_or pending i u → rest ≡ remove pending i
+    → IsNotedOf pending x.worker i → u ≡ get_or pending i u → rest ≡ remove pending i
     → IsHistoryOf (Eventcount start) (x ∷ past) → Holds start past a slots pending reads
     → Turn past x r pending rest i u
 turn start past x r a slots pending rest reads i u e k read is history h =
@@ -517,8 +518,3 @@ pub keeps_or : (start : ℕ) (past : List Event) (x : Event) (new : Scan) (f : O
     → MatchOption f (ScanKeeps start (x ∷ past) new) (Shows start (x ∷ past))
 keeps_or start past x new None h = record { holds = h.0; skips = h.1 }
 keeps_or start past x new (Some f) h = h
-
-pub if_ok : (P Q : Option Fault → Type 0) (res : Result (Option Fault) AllocError)
-    → ((r : Option Fault) → P r → Q r) → IfOk res P → IfOk res Q
-if_ok P Q (Ok r) f h = f r h
-if_ok P Q (Err e) f h = tt

@@ -3,14 +3,13 @@ use Rattle.std.proofs.Common.{Bool, true, false, ◌&&◌, cond, ◌≡◌, ℕ,
 use Rattle.std.proofs.Common.{inl, List, [], ◌∷◌, ◌++◌, length, Option, Some, None, refl, ap, sym}
 use Rattle.std.proofs.Common.{◌∙◌, arith, subst, get_or, Result, Ok, Err, append_assoc, append-nil}
 use Rattle.std.proofs.Common.{length-append}
-use Rattle.std.specs.List.{remove}
+use Rattle.std.specs.List.{remove, range_with_len as places}
 use Rattle.std.proofs.lemmas.List.Sums.{count_by-le-length}
 use Rattle.calls_core.specs.declared.history.Kind.TheVariants.{Eventcount}
 use Rattle.calls_core.specs.declared.history.Event.{Event}
 use Rattle.calls_core.specs.declared.history.Reply.{Reply}
 use Rattle.calls_core.specs.declared.history.Call.{Call}
 use Rattle.calls_counts.specs.declared.state.Slot.{Slot}
-use Rattle.calls_counts.specs.declared.state.NotedCall.{NotedCall}
 use Rattle.calls_core.specs.Lists.{Each, EachFrom}
 use Rattle.calls_core.specs.declared.history.Action.TheVariants.{Invoke, Respond}
 use Rattle.calls_core.specs.declared.history.Op.{Op}
@@ -21,16 +20,18 @@ use Rattle.calls_core.specs.Histories.{clock, completed_calls, completion, invok
 use Rattle.calls_counts.specs.Faults.{Reached, Contradicts, is_advance, least, most}
 use Rattle.calls_counts.specs.ScanStates.{free, frees, taken_calls, advancing, may_take, takers}
 use Rattle.calls_counts.specs.ScanStates.{Enough}
-use Rattle.calls_counts.specs.Scanning.{IsCallAt, FreeBelow, slot_of_call, IsNew, IsRefused}
+use Rattle.calls_counts.specs.Scanning.{FreeBelow, slot_of_call, IsNew, IsRefused}
 use Rattle.calls_core.specs.declared.history.TheConstants.{WORKERS}
 use Rattle.calls_core.specs.Outcomes.{HasOrderOf}
 use Rattle.calls_counts.specs.declared.monitor.Refusal.{Refusal}
 use Rattle.calls_counts.specs.declared.monitor.Refusal.TheVariants.{Below as IsBelow, Few as IsFew}
 use Rattle.calls_counts.specs.declared.monitor.Refusal.TheVariants.{Many as IsMany}
-use Rattle.calls_counts.specs.Watching.{places, AllBelow, IsFirstPlace, own_place, free_places}
+use Rattle.calls_counts.specs.Watching.{AllBelow, IsFirstPlace, own_place, free_places}
 use Rattle.calls_counts.specs.Watching.{Watching, IsPossible, IsImpossible}
 use Rattle.calls_counts.specs.Monitors.{Explains, refused_call, IsRefusedAt, IsTaken}
 use Rattle.calls_core.proofs.Counting.{one, count_cons, count_less}
+use Rattle.calls_core.specs.declared.pending.NotedCall.{NotedCall}
+use Rattle.calls_core.specs.Pending.{IsNotedOf}
 use Rattle.calls_counts.proofs.Slots.{slots_counted}
 use Rattle.calls_counts.proofs.Necessity.{least_given, no_order}
 use Rattle.calls_counts.proofs.Stepping.{invoked_into, turn, Turn, filled_into, forced_into}
@@ -39,15 +40,6 @@ use Rattle.calls_counts.proofs.Deciding.{starts, First, kept_has_order}
 use Rattle.calls_counts.proofs.Exactly.{too_few, seen_by}
 
 -- INDICES OF FREE SLOTS
-
-pub places_length : (p n : ℕ) → length (places p n) ≡ n
-places_length p zero = refl
-places_length p (suc n) = omega (arith, places_length (p + 1) n)
-
-pub places_more : (p n : ℕ) → places p (suc n) ≡ places p n ++ (p + n) ∷ []
-places_more p zero = ap (λ k. k ∷ []) (let e : p ≡ p + 0 = omega arith in e)
-places_more p (suc n) = ap (λ ps. p ∷ ps) (places_more (p + 1) n ∙ ap (λ k.
-    places (p + 1) n ++ k ∷ []) (let e : p + 1 + n ≡ p + suc n = omega arith in e))
 
 free_append : (i n : ℕ) (xs ys : List Slot) → n ≡ i + length xs
     → free_places i (xs ++ ys) ≡ free_places i xs ++ free_places n ys
@@ -262,21 +254,6 @@ counted_exactly n start place total long zero low within exact same = omega arit
 counted_exactly n start place total long (suc more) low within exact same =
     (let le : start + (long + suc more) ≤ n = exact (omega arith) in omega arith)
 
-pub raised_more : (p i : ℕ) (old now : List ℕ) → p ≤ i → now ≡ old ++ places p (i - p)
-    → now ++ i ∷ [] ≡ old ++ places p (i + 1 - p)
-raised_more p i old now le is =
-    let last : p + (i - p) ≡ i = omega arith in
-    let next : suc (i - p) ≡ i + 1 - p = omega arith in
-    ap (λ ps. ps ++ i ∷ []) is ∙ append_assoc old (places p (i - p)) (i ∷ [])
-    ∙ ap (λ ps. old ++ ps) (ap (λ k. places p (i - p) ++ k ∷ []) (sym last) ∙ sym
-    (places_more p (i - p)) ∙ ap (places p) next)
-
-pub raised_full : (p i q : ℕ) (old now : List ℕ) → p ≤ i → i < q → now ≡ old ++ places p (i - p)
-    → length now ≡ WORKERS → (p < q → length old + (q - p) ≤ WORKERS) → ⊥
-raised_full p i q old now le lt is full room =
-    let few : length old + (q - p) ≤ WORKERS = room (omega arith) in
-    omega (arith, few, ap length is, length-append old (places p (i - p)), places_length p (i - p))
-
 pub watched_start : (start : ℕ) → Watching start [] 0 0 [] []
 watched_start start = record {
   slots = [];
@@ -309,7 +286,7 @@ watched_invoked start past x j op begun b total free pending later e more is his
 
 module _ (start : ℕ) (past : List Event) (x : Event) (r : Reply) (begun total : ℕ) (free : List ℕ)
     (pending rest : List NotedCall) (i : ℕ) (u : NotedCall) (e : x.action ≡ Respond r)
-    (k : IsCallAt pending x.worker i) (read : u ≡ get_or pending i u) (is : rest ≡ remove pending i)
+    (k : IsNotedOf pending x.worker i) (read : u ≡ get_or pending i u) (is : rest ≡ remove pending i)
     (history : IsHistoryOf (Eventcount start) (x ∷ past))
     (w : Watching start past begun total free pending) where
   turned : Turn past x r pending rest i u

@@ -1,10 +1,7 @@
 -- What a monitor represents, and its verdicts.
 use Rattle.std.specs.Prelude.{◌≡◌, ℕ, ◌+◌, ◌<◌, ◌≤◌, List, [], ◌∷◌, Some, Result, Ok, Err}
-use Rattle.calls_core.specs.declared.history.TheConstants.{WORKERS}
 use Rattle.calls_core.specs.declared.history.Kind.TheVariants.{Eventcount}
 use Rattle.calls_core.specs.declared.history.Event.{Event}
-use Rattle.calls_core.specs.declared.history.Action.{Action}
-use Rattle.calls_core.specs.declared.history.Action.TheVariants.{Invoke, Respond}
 use Rattle.calls_core.specs.declared.history.Call.{Call}
 use Rattle.calls_core.specs.Histories.{completed_calls, IsHistoryOf}
 use Rattle.calls_core.specs.Outcomes.{HasOrderOf}
@@ -22,11 +19,6 @@ Watches past m = Watching m.start past m.begun m.total m.free.items m.pending.it
 -- the monitor of an eventcount that is start at first, before any event
 abbrev pub Starts : ℕ → Monitor → Type 0
 Starts start m = (m.start ≡ start) × Watches [] m × (m.begun ≡ 0) × (m.total ≤ m.begun)
-
--- an invocation needs room for one more pending call
-abbrev pub HasRoom : Action → ℕ → Type 0
-HasRoom (Invoke k op) n = n < WORKERS
-HasRoom (Respond r) n = Unit {0}
 
 -- the monitor represents this history, and it has a linearization. `begun` is at most the number of
 -- events: as long as there are fewer than 2^64 - 1, it leaves room for the next one

@@ -9,11 +9,11 @@ use Rattle.calls_core.specs.declared.history.Reply.TheVariants.{Done}
 use Rattle.calls_core.specs.declared.history.PendingCall.{PendingCall}
 use Rattle.calls_core.specs.declared.history.Call.{Call}
 use Rattle.calls_counts.specs.declared.state.Slot.{Slot}
-use Rattle.calls_counts.specs.declared.state.NotedCall.{NotedCall}
 use Rattle.calls_counts.specs.declared.state.PlacedRead.{PlacedRead}
 use Rattle.calls_counts.specs.CountRuns.{CountGives}
 use Rattle.calls_counts.specs.Faults.{is_advance, least, Reached}
 use Rattle.calls_core.specs.Lists.{Each, EachFrom, EachPair}
+use Rattle.calls_core.specs.declared.pending.NotedCall.{NotedCall}
 
 abbrev pub free : Option Call → Bool
 free None = true
@@ -31,9 +31,6 @@ moments slots = map (λ (s : Slot). s.moment) slots
 
 abbrev pub placed_calls : List PlacedRead → List Call
 placed_calls reads = map (λ (p : PlacedRead). p.call) reads
-
-abbrev pub noted_calls : List NotedCall → List PendingCall
-noted_calls pending = map (λ (u : NotedCall). u.call) pending
 
 -- SLOTS
 

@@ -7,7 +7,6 @@ use Rattle.calls_core.specs.declared.history.Kind.TheVariants.{Eventcount}
 use Rattle.calls_core.specs.declared.history.Event.{Event}
 use Rattle.calls_core.specs.declared.history.Call.{Call}
 use Rattle.calls_counts.specs.declared.state.Slot.{Slot}
-use Rattle.calls_counts.specs.declared.state.NotedCall.{NotedCall}
 use Rattle.calls_counts.specs.declared.state.PlacedRead.{PlacedRead}
 use Rattle.calls_counts.specs.declared.fault.Fault.{Fault}
 use Rattle.calls_counts.specs.declared.fault.Fault.TheVariants.{Below, Few, Many, Since}
@@ -23,14 +22,9 @@ use Rattle.std.specs.List.Sorted.{IsPermutation}
 use Rattle.calls_counts.specs.Faults.{is_advance, advances_invoked, made_between, least, most}
 use Rattle.calls_counts.specs.Faults.{Contradicts, Shows}
 use Rattle.calls_core.specs.Lists.{Each, EachFrom, EachPair}
-use Rattle.calls_counts.specs.ScanStates.{noted_calls, taken_calls, placed_calls, moments, IsState}
-
--- the pending call of a worker is at index i
-pub record IsCallAt (pending : List NotedCall) (w i : ℕ) : Type 0 where
-  pub call : NotedCall
-  pub at : slice_get pending i ≡ Some call
-  pub first : pending_of w (noted_calls pending) ≡ Some call.call
-  pub others : without w (noted_calls pending) ≡ noted_calls (remove pending i)
+use Rattle.calls_core.specs.declared.pending.NotedCall.{NotedCall}
+use Rattle.calls_core.specs.Pending.{noted_calls}
+use Rattle.calls_counts.specs.ScanStates.{taken_calls, placed_calls, moments, IsState}
 
 -- FREE SLOTS
 

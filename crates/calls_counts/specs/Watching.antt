@@ -2,21 +2,17 @@
 -- contracts use only `Watching`.
 use Rattle.std.specs.Prelude.{◌≡◌, ℕ, zero, suc, ◌+◌, ◌-◌, ◌<◌, ◌≤◌, max, List, [], ◌∷◌, ◌++◌}
 use Rattle.std.specs.Prelude.{length, Option, Some, None, get_or, Result, Ok, Err}
+use Rattle.std.specs.List.{range_with_len as places}
 use Rattle.calls_core.specs.declared.history.TheConstants.{WORKERS}
 use Rattle.calls_core.specs.declared.history.Event.{Event}
 use Rattle.calls_core.specs.declared.history.Call.{Call}
+use Rattle.calls_core.specs.declared.pending.NotedCall.{NotedCall}
 use Rattle.calls_counts.specs.declared.state.Slot.{Slot}
-use Rattle.calls_counts.specs.declared.state.NotedCall.{NotedCall}
 use Rattle.calls_counts.specs.declared.state.PlacedRead.{PlacedRead}
 use Rattle.calls_counts.specs.declared.monitor.Refusal.{Refusal}
 use Rattle.calls_counts.specs.declared.monitor.Refusal.TheVariants.{Below, Few, Many}
 use Rattle.calls_counts.specs.Faults.{least, most, Contradicts}
 use Rattle.calls_counts.specs.Scanning.{Holds}
-
--- the n indices from p on
-abbrev pub places : ℕ → ℕ → List ℕ
-places p zero = []
-places p (suc n) = p ∷ places (p + 1) n
 
 -- the first k of these numbers are below n
 abbrev pub AllBelow : List ℕ → ℕ → ℕ → Type 0

@@ -1,27 +1,12 @@
 //! Searches in the state of the scan, and the bounds that a reply sets on the count.
 ghost use Rattle.std.specs.Prelude.{◌≡◌, ◌↔◌, ℕ, IsTrue, MatchOption, MatchBool, OnOk, IfSome};
-ghost use Rattle.std.specs.Prelude.{None, length, ◌<◌, ◌≤◌, slice_index, slice_set};
-ghost use Rattle.calls_core.specs.Histories.{pending_of};
-ghost use Rattle.calls_counts.specs.ScanStates.{noted_calls};
-ghost use Rattle.calls_counts.specs.Scanning.{IsCallAt, NoneFree, IsFirstFree, IsFilled, Skips};
+ghost use Rattle.std.specs.Prelude.{length, ◌<◌, ◌≤◌, slice_index, slice_set};
+ghost use Rattle.calls_counts.specs.Scanning.{NoneFree, IsFirstFree, IsFilled, Skips};
 ghost use Rattle.calls_counts.specs.Faults.{is_advance, least, most, Contradicts};
 
-use crate::{NotedCall, Slot};
+use crate::Slot;
 use calls_core::{Call, Op, Reply};
 use std::alloc::AllocError;
-
-/// Finds the pending call of a worker.
-pub fn find(pending: &[NotedCall], worker: usize) -> Option<usize>
-    ensures { MatchOption result (pending_of worker (noted_calls pending.now) ≡ None)
-        (IsCallAt pending.now worker) }
-{
-    for (i, u) in pending.iter().enumerate() {
-        if u.call.worker == worker {
-            return Some(i);
-        }
-    }
-    None
-}
 
 /// Returns the index up to which the slots from `i` on are known to be taken, 0 if none is.
 fn skip(next: &[usize], i: usize) -> usize
@@ -94,10 +79,7 @@ pub fn fill(slots: &mut Vec<Slot>, next: &mut Vec<usize>, noted: usize, call: Ca
 pub fn is_advance(op: Op) -> bool
     ensures { result ≡ is_advance op }
 {
-    match op {
-        Op::Advance => true,
-        _ => false,
-    }
+    matches!(op, Op::Advance)
 }
 
 /// Returns the least count at which an eventcount gives a reply.

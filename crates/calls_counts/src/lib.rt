@@ -16,5 +16,4 @@ pub use laws::{a_fault_leaves_no_order, a_monitor_agrees, every_history_is_decid
 pub use monitor::{Monitor, Refusal};
 pub use outcome::Outcome;
 pub use scan::decide;
-pub use state::NotedCall;
 use state::{PlacedRead, Slot};

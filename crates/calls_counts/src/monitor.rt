@@ -1,15 +1,16 @@
 //! A monitor of one eventcount: it judges a history event by event, in constant memory.
 ghost use Rattle.std.specs.Prelude.{◌≡◌, ◌+◌, ◌-◌, ◌<◌, ◌≤◌, ◌^◌, ◌++◌, [], ◌∷◌, length};
 ghost use Rattle.std.specs.Prelude.{MatchOption};
+ghost use Rattle.std.specs.List.{range_with_len};
 ghost use Rattle.arrayvec.specs.ArrayVec.{array_vec_len};
 ghost use Rattle.calls_core.specs.declared.history.Action.TheVariants.{Invoke, Respond};
-ghost use Rattle.calls_counts.specs.Monitors.{Starts, HasRoom, Judges};
-ghost use Rattle.calls_counts.specs.Watching.{places, AllBelow, IsFirstPlace, IsJudged};
+ghost use Rattle.calls_core.specs.Pending.{HasRoom};
+ghost use Rattle.calls_counts.specs.Monitors.{Starts, Judges};
+ghost use Rattle.calls_counts.specs.Watching.{AllBelow, IsFirstPlace, IsJudged};
 
-use crate::NotedCall;
-use crate::find::{contradicts, find, is_advance, least, most};
+use crate::find::{contradicts, is_advance, least, most};
 use arrayvec::ArrayVec;
-use calls_core::{Action, Call, Event, Op, PendingCall, Reply, WORKERS};
+use calls_core::{Action, Call, Event, NotedCall, Op, PendingCall, Reply, WORKERS, find_noted, push_range};
 
 /// The state after the events so far, with at most `WORKERS` pending calls.
 #[derive(Drop)]
@@ -22,7 +23,7 @@ pub struct Monitor {
     pub total: usize,
     /// Which of the first `total` advances no response accounts for yet: their indices, ascending.
     pub free: ArrayVec<usize, WORKERS>,
-    /// The pending calls.
+    /// The pending calls, each with `total` at its invocation.
     pub pending: ArrayVec<NotedCall, WORKERS>,
 }
 
@@ -47,14 +48,6 @@ pub enum Refusal {
     },
 }
 
-/// Adds a pending call.
-fn begin(pending: &mut ArrayVec<NotedCall, WORKERS>, call: NotedCall)
-    requires { array_vec_len pending.old < WORKERS }
-    ensures { pending.new.items ≡ pending.old.items ++ call ∷ [] }
-{
-    pending.push(call);
-}
-
 /// Returns where in `free` the first index that is at least `noted` is.
 fn place_from(free: &[usize], noted: usize) -> Option<usize>
     ensures { MatchOption result (AllBelow free.now noted (length free.now))
@@ -66,21 +59,6 @@ fn place_from(free: &[usize], noted: usize) -> Option<usize>
         }
     }
     None
-}
-
-/// Adds the indices from `from` to below `upto`, as far as there is room.
-fn raise(free: &mut ArrayVec<usize, WORKERS>, from: usize, upto: usize)
-    ensures { (from < upto → length free.old.items + (upto - from) ≤ WORKERS)
-        → free.new.items ≡ free.old.items ++ places from (upto - from) }
-{
-    let mut i = from;
-    while i < upto {
-        if free.is_full() {
-            return;
-        }
-        free.push(i);
-        i += 1;
-    }
 }
 
 impl Monitor {
@@ -120,14 +98,9 @@ impl Monitor {
         requires action { event.action ≡ Invoke object op }
         ensures { Judges self.old self.new event (Ok tt) }
     {
-        let call = PendingCall {
-            worker: event.worker,
-            object,
-            op,
-            first: event.at,
-        };
+        let call = PendingCall::new(event, object, op);
         let noted = self.total;
-        begin(&mut self.pending, NotedCall { call, noted });
+        self.pending.push(NotedCall { call, noted });
         if is_advance(op) {
             self.begun += 1;
         }
@@ -140,19 +113,12 @@ impl Monitor {
         requires counted { self.old.total ≤ self.old.begun }
         ensures { Judges self.old self.new event result }
     {
-        let Some(i) = find(self.pending.as_slice(), event.worker) else {
+        let Some(i) = find_noted(self.pending.as_slice(), event.worker) else {
             return Ok(());
         };
         let u = self.pending.remove(i);
-        let call = Call {
-            worker: u.call.worker,
-            object: u.call.object,
-            op: u.call.op,
-            reply,
-            first: u.call.first,
-            last: event.at,
-        };
-        if !is_advance(call.op) {
+        let call = u.call.complete(reply, event.at);
+        if !is_advance(u.call.op) {
             return observe(
                 self.start,
                 self.begun,
@@ -207,7 +173,7 @@ fn observe(
             });
         }
     }
-    raise(free, *total, n);
+    push_range(free, *total, n);
     *total = n.max(*total);
     Ok(())
 }

@@ -6,11 +6,11 @@ ghost use Rattle.calls_core.specs.Histories.{IsHistoryOf, clock};
 ghost use Rattle.calls_counts.specs.Scanning.{TakesIn};
 ghost use Rattle.calls_counts.specs.Outcomes.{IsOutcome};
 
-use crate::find::{fill, find, grow, is_advance};
+use crate::find::{fill, grow, is_advance};
 use crate::observe::observe;
 use crate::untaken::{complete, order};
-use crate::{Fault, NotedCall, Outcome, PlacedRead, Slot};
-use calls_core::{Action, Call, Event, Op, Part, PendingCall, Reply};
+use crate::{Fault, Outcome, PlacedRead, Slot};
+use calls_core::{Action, Event, NotedCall, Op, Part, PendingCall, Reply, find_noted};
 use std::alloc::{AllocError, Global};
 
 /// The state of the scan after the events so far.
@@ -22,7 +22,7 @@ pub struct Scan {
     pub slots: Vec<Slot>,
     /// For each slot an index up to which the slots from it on are taken, 0 if none is known.
     pub next: Vec<usize>,
-    /// The pending calls.
+    /// The pending calls, each with the number of slots at its invocation.
     pub pending: Vec<NotedCall>,
     /// The completed reads and awaits.
     pub reads: Vec<PlacedRead>,
@@ -34,12 +34,7 @@ fn invoke(scan: &mut Scan, event: Event, object: usize, op: Op) -> Result<(), Al
     requires action { event.action ≡ Invoke object op }
     ensures { OnOk result ((start : ℕ) → TakesIn start scan.old scan.new event None) }
 {
-    let call = PendingCall {
-        worker: event.worker,
-        object,
-        op,
-        first: event.at,
-    };
+    let call = PendingCall::new(event, object, op);
     let noted = scan.slots.len();
     scan.pending.push(NotedCall { call, noted })?;
     if is_advance(op) {
@@ -59,19 +54,12 @@ fn respond(
     requires { event.action ≡ Respond reply }
     ensures { IfOk result (TakesIn start scan.old scan.new event) }
 {
-    let Some(i) = find(&scan.pending, event.worker) else {
+    let Some(i) = find_noted(&scan.pending, event.worker) else {
         return Ok(None);
     };
     let u = scan.pending.remove(i);
-    let call = Call {
-        worker: u.call.worker,
-        object: u.call.object,
-        op: u.call.op,
-        reply,
-        first: u.call.first,
-        last: event.at,
-    };
-    if !is_advance(call.op) {
+    let call = u.call.complete(reply, event.at);
+    if !is_advance(u.call.op) {
         return observe(
             alloc,
             start,

@@ -1,5 +1,5 @@
 //! The parts of the scan's state.
-use calls_core::{Call, PendingCall};
+use calls_core::Call;
 
 /// The place of an advance in the order, and when the advance takes effect.
 ///
@@ -10,15 +10,6 @@ pub struct Slot {
     pub moment: usize,
     /// The advance, or `None` if the slot is free.
     pub taken: Option<Call>,
-}
-
-/// A pending call, with what was known at its invocation.
-#[derive(Clone, Copy, Debug, Default, PartialEq, Eq)]
-pub struct NotedCall {
-    /// The call.
-    pub call: PendingCall,
-    /// How many slots there were at its invocation.
-    pub noted: usize,
 }
 
 /// A completed read or await, and its place among the slots.

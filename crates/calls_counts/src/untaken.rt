@@ -6,8 +6,8 @@ ghost use Rattle.calls_counts.specs.Orders.{reads_at, order_from, IsOrdering, Is
 ghost use Rattle.calls_counts.specs.Scanning.{Completes};
 
 use crate::find::{fill, is_advance};
-use crate::{NotedCall, PlacedRead, Slot};
-use calls_core::{Call, PlacedCalls, Reply};
+use crate::{PlacedRead, Slot};
+use calls_core::{NotedCall, PlacedCalls, Reply};
 use std::alloc::{AllocError, Global};
 
 /// Lets pending advances take the free slots, as if they had their responses at `end`.
@@ -15,16 +15,8 @@ pub fn complete(slots: &mut Vec<Slot>, next: &mut Vec<usize>, pending: &[NotedCa
     ensures { Completes slots.old.items slots.new.items next.old.items pending.now end }
 {
     for u in pending {
-        let call = Call {
-            worker: u.call.worker,
-            object: u.call.object,
-            op: u.call.op,
-            reply: Reply::Done,
-            first: u.call.first,
-            last: end,
-        };
-        if is_advance(call.op) {
-            fill(slots, next, u.noted, call);
+        if is_advance(u.call.op) {
+            fill(slots, next, u.noted, u.call.complete(Reply::Done, end));
         }
     }
 }

@@ -96,18 +96,6 @@ store_at i events h = (h.0, h.1, history_at h.0 i events h.2)
 
 -- THE CLOCK
 
-pub clock_earlier : (kind : Kind) (late past : List Event) → IsHistoryOf kind (late ++ past)
-    → clock past ≤ clock (late ++ past)
-clock_earlier kind [] past h = omega arith
-clock_earlier kind (x ∷ late) past h = (let le = clock_earlier kind late past h.2 in
-    let lt : clock (late ++ past) ≤ x.at = h.0 in omega arith)
-
-pub clock_at : (i : ℕ) (events : List Event) → IsStoreHistory (reverse events)
-    → clock (past_at i events) ≤ clock (reverse events)
-clock_at i events h = subst (λ (past : List Event). clock (past_at i events) ≤ clock past)
-    (sym (past_split i events)) (clock_earlier h.0 (reverse (drop i events)) (past_at i events)
-    (subst (IsHistoryOf h.0) (past_split i events) h.2))
-
 pub clock_is : (i n : ℕ) (events : List Event) (d : Event) → n ≡ i + 1 → i < length events
     → clock (past_at n events) ≡ (get_or events i d).at + 1
 clock_is i n events d e lt = ap (λ k. clock (past_at k events)) e ∙ ap clock

@@ -1,5 +1,5 @@
 -- One more call in the groups.
-use Rattle.std.proofs.Common.{◌≡◌, ◌≢◌, ℕ, zero, ◌+◌, ◌<◌, ◌≤◌, inl, inr, Bool, true}
+use Rattle.std.proofs.Common.{◌≡◌, ◌≢◌, ℕ, zero, ◌+◌, ◌<◌, ◌≤◌, inl, inr, Bool, true, ◌||◌}
 use Rattle.std.proofs.Common.{false, cond, not, ◌&&◌, ◌==◌, nat_lt, nat_le, Option, Some, None}
 use Rattle.std.proofs.Common.{subst, List, [], ◌∷◌, ◌++◌, length, refl, ap, sym}
 use Rattle.std.proofs.Common.{◌∙◌, arith, count_by}
@@ -90,22 +90,13 @@ module _ (seen : List Call) (call : Call) (g : Group) (h : IsGroup seen (value c
       let at_more = λ (n : ℕ). count_one_more (is_put_at v n) seen call in
       let early = early_more in
       let late = late_more in
-      elim (is_put call.op) as (λ b. is_put call.op ≡ b → IsGroup (seen ++ call ∷ []) v (cond b
-      (record {
-        got = g.got;
-        puts = g.puts + 1;
-        put = call.first;
+      elim (is_put call.op) as (λ b. is_put call.op ≡ b → IsGroup (seen ++ call ∷ []) v (record {
+        got = not b || g.got;
+        puts = cond b (g.puts + 1) g.puts;
+        put = cond b call.first g.put;
         early = earlier g.early call;
         late = later g.late call;
-      })
-      (record {
-        got = true;
-        puts = g.puts;
-        put = g.put;
-        early = earlier g.early call;
-        late =
-            later g.late call;
-      }))) [
+      })) [
         | true ↦ λ p.
             (let own = put_call_is v call p refl in
             let no : gets v call ≡ false = ap (λ b. not b && (value call == v)) p in

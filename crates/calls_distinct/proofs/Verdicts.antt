@@ -299,8 +299,11 @@ module _ (done : List Call) (pending : List PendingCall) (t : ℕ) (zs : List Gr
         into_all c kc (or_right (nat_lt c.last t) (is_got done (value c))
         (ap (is_got done) same ∙ got)) in
         elim z.group.got as (λ b. z.group.got ≡ b → IsZone all done
-        (cond b (record { call = z.call; early = z.group.early; late = z.group.late })
-        (record { call = z.call; early = z.call; late = z.call }))) [
+        (record {
+          call = z.call;
+          early = cond b z.group.early z.call;
+          late = cond b z.group.late z.call;
+        })) [
           | true ↦ λ g.
               (let got : is_got done v ≡ true = sym (got_of z k) ∙ g in
               record {
@@ -339,15 +342,6 @@ module _ (done : List Call) (pending : List PendingCall) (t : ℕ) (zs : List Gr
               })
         ] refl
 
-    zone_call : (z : GroupedCall) → (zone_of z).call ≡ z.call
-    zone_call z = elim z.group.got as (λ b. (λ (y : Zone). y.call)
-        (cond b (record { call = z.call; early = z.group.early; late = z.group.late })
-        (record { call = z.call; early = z.call; late = z.call })) ≡ z.call) [
-          | true ↦ refl
-          | false ↦
-              refl
-        ]
-
     calls_kept : (ys : List GroupedCall) → Each (λ (z : GroupedCall). Contains zs z) ys
         → zone_calls (zones_of t ys) ≡ filter (keeps done pending t) (grouped_calls ys)
     calls_kept [] h = refl
@@ -356,7 +350,7 @@ module _ (done : List Call) (pending : List PendingCall) (t : ℕ) (zs : List Gr
         → zone_calls (map zone_of (cond b (z ∷ filter (takes_effect t) ys)
         (filter (takes_effect t) ys))) ≡ filter (keeps done pending t)
         (z.call ∷ grouped_calls ys)) [
-          | true ↦ λ e. ap (λ (c : Call). c ∷ zone_calls (zones_of t ys)) (zone_call z) ∙ ap (λ cs.
+          | true ↦ λ e. ap (λ cs.
               z.call ∷ cs) (calls_kept ys h.1) ∙ sym (filter_yes (keeps done pending t) z.call
               (grouped_calls ys) (sym (effect_of z h.0) ∙ e))
           | false ↦ λ e. calls_kept ys h.1 ∙ sym (filter_no (keeps done pending t) z.call

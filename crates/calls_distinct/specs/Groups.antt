@@ -32,17 +32,10 @@ later a b = if nat_lt a.first b.first then b else a
 -- the group with one more call
 abbrev pub with_call : Group → Call → Group
 with_call g c =
-    if is_put c.op then record {
-      got = g.got;
-      puts = g.puts + 1;
-      put = c.first;
-      early = earlier g.early c;
-      late = later g.late c;
-    }
-    else record {
-      got = true;
-      puts = g.puts;
-      put = g.put;
+    record {
+      got = not (is_put c.op) || g.got;
+      puts = if is_put c.op then g.puts + 1 else g.puts;
+      put = if is_put c.op then c.first else g.put;
       early = earlier g.early c;
       late = later g.late c;
     }
@@ -87,8 +80,11 @@ takes_effect t z = nat_lt z.call.last t || z.group.got
 
 abbrev pub zone_of : GroupedCall → Zone
 zone_of z =
-    if z.group.got then record { call = z.call; early = z.group.early; late = z.group.late }
-    else record { call = z.call; early = z.call; late = z.call }
+    record {
+      call = z.call;
+      early = if z.group.got then z.group.early else z.call;
+      late = if z.group.got then z.group.late else z.call;
+    }
 
 abbrev pub zones_of : ℕ → List GroupedCall → List Zone
 zones_of t zs = map zone_of (filter (takes_effect t) zs)

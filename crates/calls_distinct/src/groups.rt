@@ -47,24 +47,13 @@ fn with_call<'a>(group: &Group<'a>, call: &'a Call) -> Group<'a>
     requires { group.now.puts < usize.MAX }
     ensures { result ≡ with_call group.now call.now }
 {
-    let early = earlier(group.early, call);
-    let late = later(group.late, call);
-    if is_put(call.op) {
-        Group {
-            got: group.got,
-            puts: group.puts + 1,
-            put: call.first,
-            early,
-            late,
-        }
-    } else {
-        Group {
-            got: true,
-            puts: group.puts,
-            put: group.put,
-            early,
-            late,
-        }
+    let put = is_put(call.op);
+    Group {
+        got: !put || group.got,
+        puts: if put { group.puts + 1 } else { group.puts },
+        put: if put { call.first } else { group.put },
+        early: earlier(group.early, call),
+        late: later(group.late, call),
     }
 }
 

@@ -1,26 +1,13 @@
 //! The calls of a history.
 ghost use Rattle.std.specs.Prelude.{◌≡◌, ◌++◌, reverse, IfOk, OnOk};
-ghost use Rattle.calls_core.specs.Histories.{pending_of, without, pending_after, ended_call};
+ghost use Rattle.calls_core.specs.Histories.{pending_of, pending_after, ended_call};
 ghost use Rattle.calls_core.specs.Histories.{completed_calls, pending_calls};
 ghost use Rattle.calls_core.specs.Linearizations.{answered_calls};
 ghost use Rattle.calls_distinct.specs.Zones.{put_answer, begun_calls};
 
 use crate::reading::is_put;
-use calls_core::{Action, Call, Event, Part, PendingCall, Reply};
+use calls_core::{Action, Call, Event, Part, PendingCall, Reply, take_pending};
 use std::alloc::{AllocError, Global};
-
-/// Removes and returns the pending call of this worker, if it has one.
-fn take_pending(pending: &mut Vec<PendingCall>, worker: usize) -> Option<PendingCall>
-    ensures result { result ≡ pending_of worker pending.old.items }
-    ensures rest { pending.new.items ≡ without worker pending.old.items }
-{
-    for i in 0..pending.len() {
-        if pending[i].worker == worker {
-            return Some(pending.remove(i));
-        }
-    }
-    None
-}
 
 /// Adds one event: it makes a call pending, or completes it.
 fn note(calls: &mut Vec<Call>, pending: &mut Vec<PendingCall>, x: &Event) -> Result<(), AllocError>
@@ -31,12 +18,7 @@ fn note(calls: &mut Vec<Call>, pending: &mut Vec<PendingCall>, x: &Event) -> Res
 {
     match x.action {
         Action::Invoke(object, op) => {
-            pending.push(PendingCall {
-                worker: x.worker,
-                object,
-                op,
-                first: x.at,
-            })?;
+            pending.push(PendingCall::new(*x, object, op))?;
         }
         Action::Respond(reply) => {
             if let Some(o) = take_pending(pending, x.worker) {

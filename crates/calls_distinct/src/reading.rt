@@ -8,10 +8,7 @@ use calls_core::{Call, Op, Reply};
 pub fn is_put(op: Op) -> bool
     ensures { result ≡ is_put op }
 {
-    match op {
-        Op::Put(_) => true,
-        _ => false,
-    }
+    matches!(op, Op::Put(_))
 }
 
 /// Returns what a call puts or returns.

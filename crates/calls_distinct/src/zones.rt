@@ -57,18 +57,10 @@ fn zone_of<'a>(z: &GroupedCall<'_, 'a>) -> Zone<'a>
     ensures { result ≡ zone_of z.now }
 {
     let group = z.group;
-    if group.got {
-        Zone {
-            call: z.call,
-            early: group.early,
-            late: group.late,
-        }
-    } else {
-        Zone {
-            call: z.call,
-            early: z.call,
-            late: z.call,
-        }
+    Zone {
+        call: z.call,
+        early: if group.got { group.early } else { z.call },
+        late: if group.got { group.late } else { z.call },
     }
 }
 

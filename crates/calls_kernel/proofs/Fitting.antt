@@ -1,7 +1,6 @@
 -- The calls of a history are operations of declared objects.
-use Rattle.std.proofs.Common.{◌≡◌, ℕ, zero, suc, ◌+◌, ◌-◌, ◌<◌, ◌≤◌, inl, inr, true, false}
-use Rattle.std.proofs.Common.{◌==◌, cond, List, [], ◌∷◌, ◌++◌, length, map, Option, Some, None}
-use Rattle.std.proofs.Common.{slice_get}
+use Rattle.std.proofs.Common.{◌≡◌, ℕ, zero, suc, ◌+◌, ◌-◌, ◌<◌, ◌≤◌, inl, inr, true, false, ◌==◌}
+use Rattle.std.proofs.Common.{cond, List, [], ◌∷◌, ◌++◌, length, map, Option, Some, None, slice_get}
 use Rattle.std.proofs.Common.{refl, ap, sym, ◌∙◌, arith, subst}
 use Rattle.std.specs.List.{All}
 use Rattle.std.proofs.lemmas.Bool.{cases_lt, lt-leb}
@@ -22,8 +21,7 @@ use Rattle.calls_core.specs.declared.history.PendingCall.{PendingCall}
 use Rattle.calls_core.specs.declared.history.Call.{Call}
 use Rattle.calls_core.specs.Lists.{Each}
 use Rattle.calls_core.specs.Histories.{clock, pending_of, without, pending_calls, pending_after}
-use Rattle.calls_core.specs.Histories.{completed_calls, ended_call, Takes, IsNext}
-use Rattle.calls_core.specs.Histories.{IsHistory}
+use Rattle.calls_core.specs.Histories.{completed_calls, ended_call, Takes, IsNext, IsHistory}
 use Rattle.calls_core.specs.Linearizations.{answered_calls, answered_one, IsAnsweredLinearization}
 use Rattle.calls_core.specs.Calls.{Fitting}
 use Rattle.calls_core.proofs.Lists.{each_append, all_from_each}

@@ -30,10 +30,9 @@ use Rattle.calls_core.specs.declared.history.Event.{Event}
 use Rattle.calls_core.specs.declared.history.Call.{Call}
 use Rattle.calls_core.specs.Histories.{clock, completed_calls, pending_calls, IsHistory}
 use Rattle.calls_core.specs.Linearizations.{set_at, after, Gives, KeepsOrder, IsRun, start}
-use Rattle.calls_core.specs.Linearizations.{answered_calls}
+use Rattle.calls_core.specs.Linearizations.{answered_calls, IsAnsweredLinearization}
 use Rattle.calls_local.specs.Laws.{AnswersBecomeResponses}
 use Rattle.calls_core.proofs.Filters.{permutation_filter}
-use Rattle.calls_core.specs.Linearizations.{IsAnsweredLinearization}
 use Rattle.calls_kernel.specs.Outside.{kinds_of, is_call}
 use Rattle.calls_kernel.specs.Made.{act_on, IsReplyOf}
 use Rattle.calls_kernel.specs.Recorded.{IsRecordedAs, AreRecordedAs, IsRecord}

@@ -1,8 +1,7 @@
 -- The calls of an accepted history of steps, seen from outside.
 use Rattle.std.proofs.Common.{◌≡◌, ℕ, suc, ◌+◌, ◌-◌, ◌*◌, ◌<◌, ◌≤◌, Bool, true, false, not, ◌&&◌}
 use Rattle.std.proofs.Common.{◌==◌, cond, List, [], ◌∷◌, ◌++◌, length, map, reverse, Option, Some}
-use Rattle.std.proofs.Common.{None}
-use Rattle.std.proofs.Common.{is_some, refl, ap, sym, ◌∙◌, arith, subst, nat_le, slice_get}
+use Rattle.std.proofs.Common.{None, is_some, refl, ap, sym, ◌∙◌, arith, subst, nat_le, slice_get}
 use Rattle.std.specs.List.{filter}
 use Rattle.std.specs.Option.{option_map}
 use Rattle.std.proofs.lemmas.Bool.{eqb-true, eq-eqb, leb-false}

@@ -1,6 +1,7 @@
 -- Calls that a kernel makes one after another.
 use Rattle.std.specs.Prelude.{◌≡◌, ℕ, ◌+◌, ◌-◌, ◌<◌, ◌≤◌, true, false, ◌==◌, ◌&&◌, List, [], ◌∷◌}
 use Rattle.std.specs.Prelude.{length, reverse, count_by, None}
+use Rattle.std.specs.List.{AllZip}
 use Rattle.ec_count.specs.Tables.{Tables}
 use Rattle.ec_core.specs.declared.act.Act.{Act}
 use Rattle.ec_core.specs.declared.act.Act.TheVariants as acts
@@ -66,9 +67,7 @@ pub record IsMadeAs (t : Tables) (d : FinishedCall) (c : Call) : Type 0 where
 
 -- the completed calls are these calls in this order
 abbrev pub AreMadeAs : Tables → List FinishedCall → List Call → Type 0
-AreMadeAs t [] [] = Unit {0}
-AreMadeAs t (d ∷ ds) (c ∷ cs) = IsMadeAs t d c × AreMadeAs t ds cs
-AreMadeAs t _ _ = ⊥
+AreMadeAs t ds cs = AllZip (IsMadeAs t) ds cs
 
 -- each call begins right after the last entry of the call before it, from position i to position n
 abbrev pub AreInARow : ℕ → List FinishedCall → ℕ → Type 0

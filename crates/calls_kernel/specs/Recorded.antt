@@ -1,6 +1,6 @@
 -- Histories of calls that a program recorded of a kernel without seeing its steps.
 use Rattle.std.specs.Prelude.{ℕ, ◌≤◌, List, [], ◌∷◌, ◌++◌, reverse, Option, Some}
-use Rattle.std.specs.List.{filter}
+use Rattle.std.specs.List.{filter, AllZip}
 use Rattle.std.specs.List.Sorted.{IsPermutation}
 use Rattle.ec_count.specs.Tables.{Tables}
 use Rattle.ec_core.specs.declared.act.Entry.{Entry}
@@ -26,9 +26,7 @@ pub record IsRecordedAs (t : Tables) (moment : ℕ → ℕ) (d : FinishedCall) (
   pub to_last : moment d.last ≤ c.last
 
 abbrev pub AreRecordedAs : Tables → (ℕ → ℕ) → List FinishedCall → List Call → Type 0
-AreRecordedAs t moment [] [] = Unit {0}
-AreRecordedAs t moment (d ∷ ds) (c ∷ cs) = IsRecordedAs t moment d c × AreRecordedAs t moment ds cs
-AreRecordedAs t moment _ _ = ⊥
+AreRecordedAs t moment ds cs = AllZip (IsRecordedAs t moment) ds cs
 
 -- a history of calls that can have been recorded of a kernel: there is an accepted history of
 -- steps, and its entries happened at positions of the record that never fall. Its completed calls,

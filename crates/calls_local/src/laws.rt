@@ -1,11 +1,5 @@
 //! Theorems about every history, each the contract of an empty function.
-ghost use Rattle.calls_local.specs.Laws.{HistoriesHaveCalls, APartIsAHistory};
-ghost use Rattle.calls_local.specs.Laws.{PartsAreLinearized, PartsMakeWhole};
-ghost use Rattle.calls_local.specs.Laws.{ResponsesBecomeAnswers, AnswersBecomeResponses};
-ghost use Rattle.calls_local.specs.Laws.{Locality, LinearizableByOrders, OneObject};
-ghost use Rattle.calls_local.specs.Laws.{APrefixIsLinearizable};
-ghost use Rattle.calls_local.specs.Laws.{OrderHasPoints, OrderOnHasPoints, PlacedPartsMakeWhole};
-ghost use Rattle.calls_local.specs.Laws.{PointsKeepTheOrder};
+ghost use Rattle.calls_local.specs.Laws as laws;
 ghost use Rattle.calls_local.specs.Renamings.{NumbersAreNames};
 ghost use Rattle.calls_local.specs.Databases.{ListsGoByNumbers, DatabasesGoByNumbers};
 
@@ -13,80 +7,80 @@ ghost use Rattle.calls_local.specs.Databases.{ListsGoByNumbers, DatabasesGoByNum
 ///
 /// Their positions are in order, and each call is an operation of its object.
 pub fn histories_have_calls()
-    ensures { HistoriesHaveCalls }
+    ensures { laws.HistoriesHaveCalls }
 {}
 
 /// States that the events of one object are a history, whose calls are those of that object.
 pub fn a_part_is_a_history()
-    ensures { APartIsAHistory }
+    ensures { laws.APartIsAHistory }
 {}
 
 /// States that a linearization, restricted to one object, is one of that object's calls.
 pub fn parts_are_linearized()
-    ensures { PartsAreLinearized }
+    ensures { laws.PartsAreLinearized }
 {}
 
 /// States that linearizations of each object's calls, merged by points, are one of all calls.
 pub fn parts_make_whole()
-    ensures { PartsMakeWhole }
+    ensures { laws.PartsMakeWhole }
 {}
 
 /// States that a linearization by later responses is one by answers.
 pub fn responses_become_answers()
-    ensures { ResponsesBecomeAnswers }
+    ensures { laws.ResponsesBecomeAnswers }
 {}
 
 /// States that a linearization by answers is one by later responses.
 ///
 /// A later response counts as one at the end of the history.
 pub fn answers_become_responses()
-    ensures { AnswersBecomeResponses }
+    ensures { laws.AnswersBecomeResponses }
 {}
 
 /// States that a history is linearizable exactly when the events of each object are.
 pub fn locality()
-    ensures { Locality }
+    ensures { laws.Locality }
 {}
 
 /// States that a history is linearizable exactly when the events of each object have an order.
 ///
 /// It is an order of the object's kind, which is what a checker of one object decides.
 pub fn linearizable_by_orders()
-    ensures { LinearizableByOrders }
+    ensures { laws.LinearizableByOrders }
 {}
 
 /// States that a history of one object is linearizable exactly when it has an order of its kind.
 pub fn one_object()
-    ensures { OneObject }
+    ensures { laws.OneObject }
 {}
 
 /// States that each prefix of a linearizable history is linearizable.
 pub fn a_prefix_is_linearizable()
-    ensures { APrefixIsLinearizable }
+    ensures { laws.APrefixIsLinearizable }
 {}
 
 /// States that the calls of an order of one object have linearization points, which never fall.
 ///
 /// The point of each call is between its invocation and its response.
 pub fn order_has_points()
-    ensures { OrderHasPoints }
+    ensures { laws.OrderHasPoints }
 {}
 
 /// States `order_has_points` for the calls of one object among those of many.
 pub fn order_on_has_points()
-    ensures { OrderOnHasPoints }
+    ensures { laws.OrderOnHasPoints }
 {}
 
 /// States that calls keep the real-time order if their linearization points never fall.
 ///
 /// The point of each call has to be between its invocation and its response.
 pub fn points_keep_the_order()
-    ensures { PointsKeepTheOrder }
+    ensures { laws.PointsKeepTheOrder }
 {}
 
 /// States that placed orders of all objects, merged by points, are a placed order of all calls.
 pub fn placed_parts_make_whole()
-    ensures { PlacedPartsMakeWhole }
+    ensures { laws.PlacedPartsMakeWhole }
 {}
 
 /// States that whether a history is linearizable does not depend on how its values are numbered.

@@ -1,17 +1,15 @@
 -- How many calls were invoked: no more than the positions of their events allow.
-use Rattle.std.proofs.Common.{◌≡◌, ℕ, ◌+◌, ◌-◌, ◌^◌, ◌<◌, ◌≤◌, Bool, true, false, ◌==◌, cond, arith}
+use Rattle.std.proofs.Common.{◌≡◌, ℕ, ◌+◌, ◌-◌, ◌^◌, ◌<◌, ◌≤◌, Bool, true, false, cond, arith}
 use Rattle.std.proofs.Common.{List, [], ◌∷◌, length, Option, Some, None, refl}
 use Rattle.std.proofs.lemmas.List.{length-append}
-use Rattle.std.proofs.lemmas.Option.{none-some}
 use Rattle.calls_core.specs.declared.history.TheConstants.{WORKERS}
 use Rattle.calls_core.specs.declared.history.Kind.{Kind}
 use Rattle.calls_core.specs.declared.history.Action.{Action}
 use Rattle.calls_core.specs.declared.history.Action.TheVariants.{Invoke, Respond}
 use Rattle.calls_core.specs.declared.history.Event.{Event}
 use Rattle.calls_core.specs.declared.history.PendingCall.{PendingCall}
-use Rattle.calls_core.specs.Histories.{clock, pending_of, without, invoked_by, pending_after}
-use Rattle.calls_core.specs.Histories.{pending_calls, ended_call, completed_calls}
-use Rattle.calls_core.specs.Histories.{IsNextOf, IsHistoryOf}
+use Rattle.calls_core.specs.Histories.{clock, pending_of, invoked_by, pending_after, pending_calls}
+use Rattle.calls_core.specs.Histories.{ended_call, completed_calls, IsNextOf, IsHistoryOf}
 use Rattle.calls_core.proofs.Counting.{count_cons}
 use Rattle.calls_counts.specs.Faults.{is_advance, invokes_advance, advances_invoked}
 use Rattle.calls_monitor.specs.kept.Watching.{call_count}

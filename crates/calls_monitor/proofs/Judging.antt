@@ -1,12 +1,10 @@
 -- One event of a whole history.
 use Rattle.std.proofs.Common.{◌≡◌, ℕ, zero, suc, ◌^◌, ◌<◌, ◌≤◌, true, false, ◌==◌, cond, arith}
-use Rattle.std.proofs.Common.{List, [], ◌∷◌, ◌++◌, length, map, set, get_or, slice_get, Option}
-use Rattle.std.proofs.Common.{Some, None}
-use Rattle.std.proofs.Common.{Result, Ok, Err, refl, ap, sym, ◌∙◌, subst}
-use Rattle.std.specs.List.{position, remove}
+use Rattle.std.proofs.Common.{List, [], ◌∷◌, ◌++◌, length, set, get_or, slice_get, Option, Some}
+use Rattle.std.proofs.Common.{None, Result, Ok, Err, refl, ap, sym, ◌∙◌, subst}
+use Rattle.std.specs.List.{remove}
 use Rattle.std.proofs.lemmas.Bool.{eq-eqb, ne_eqb, eqb-true}
 use Rattle.std.proofs.lemmas.Option.{none-some, same_Some}
-use Rattle.std.proofs.lemmas.List.{map-append, length-map}
 use Rattle.std.proofs.lemmas.List.Sums.{length-filter, count_by-le-length}
 use Rattle.calls_core.specs.declared.history.TheConstants.{WORKERS}
 use Rattle.calls_core.specs.declared.history.Kind.{Kind}
@@ -16,27 +14,24 @@ use Rattle.calls_core.specs.declared.history.Action.{Action}
 use Rattle.calls_core.specs.declared.history.Action.TheVariants.{Invoke, Respond}
 use Rattle.calls_core.specs.declared.history.Event.{Event}
 use Rattle.calls_core.specs.declared.history.PendingCall.{PendingCall}
-use Rattle.calls_core.specs.Histories.{pending_of, invoked_by, pending_after}
+use Rattle.calls_core.specs.Histories.{pending_of, invoked_by, pending_after, without}
 use Rattle.calls_core.specs.Histories.{pending_calls, Takes, IsNext, IsHistory, IsHistoryOf}
 use Rattle.calls_core.specs.Histories.{is_on, part}
 use Rattle.calls_core.specs.Calls.{Fitting}
 use Rattle.calls_core.specs.Outcomes.{HasOrderOf}
 use Rattle.calls_core.proofs.Positions.{each_call_by, histories_have_calls}
+use Rattle.calls_core.specs.Pending.{IsPendingOf, HasRoom}
 use Rattle.calls_local.proofs.Parts.{a_part_is_a_history}
 use Rattle.calls_local.proofs.Wholes.{linearizable_by_orders}
 use Rattle.calls_monitor.specs.declared.object.Watch.{Watch}
-use Rattle.calls_monitor.specs.declared.monitor.Pending.{Pending}
 use Rattle.calls_monitor.specs.declared.monitor.Monitor.{Monitor}
 use Rattle.calls_monitor.specs.declared.monitor.Rejection.{Rejection}
 use Rattle.calls_monitor.specs.declared.monitor.Rejection.TheVariants.{Refused, Full}
 use Rattle.calls_monitor.specs.Refusals.{Explains}
 use Rattle.calls_monitor.specs.Monitors.{IsWatched, IsFine, Verdict}
-use Rattle.calls_monitor.specs.kept.Watching.{entry, WatchesOf, Watches, IsHandedTo}
-use Rattle.calls_counts.specs.Monitors.{HasRoom}
-use Rattle.calls_monitor.specs.kept.Watching.{IsPassed}
+use Rattle.calls_monitor.specs.kept.Watching.{WatchesOf, Watches, IsHandedTo, IsPassed}
 use Rattle.calls_monitor.proofs.Begun.{begun_few}
 use Rattle.calls_monitor.proofs.Objects.{order_of_watch, none_of, roomy}
-use Rattle.calls_monitor.proofs.Entries.{is_his, IsAt, at_position, at_none}
 use Rattle.calls_monitor.proofs.Entries.{get_set}
 use Rattle.calls_semaphores.proofs.Scanning.{get_other}
 
@@ -129,7 +124,7 @@ module _ (kinds : List Kind) (past : List Event) (x : Event) (h : IsHistory kind
   less_room (Invoke k op) m n le r = omega (arith, le, r)
   less_room (Respond r) m n le y = tt
 
-  module _ (new : Monitor) (pending : new.pending.items ≡ map entry (pending_calls (x ∷ past)))
+  module _ (new : Monitor) (pending : new.pending.items ≡ pending_calls (x ∷ past))
     where
       accepted : (v : Watch) → new.objects.items ≡ set old.objects.items j v
           → WatchesOf kind (x ∷ part j past) v → Watches kinds (x ∷ past) new
@@ -212,45 +207,38 @@ module _ (kinds : List Kind) (past : List Event) (x : Event) (h : IsHistory kind
     (fits : x.at < 2 ^ 64) (old : Monitor) (w : Watches kinds past old)
     (few : length old.pending.items ≤ WORKERS) where
   entries : length (pending_calls past) ≡ length old.pending.items
-  entries = sym (length-map (pending_calls past) entry) ∙ sym (ap length w.pending)
+  entries = sym (ap length w.pending)
 
   pub invoked : (j : ℕ) (op : Op) → x.action ≡ Invoke j op → length old.pending.items < WORKERS
-      → (new : Monitor) → new.pending.items ≡ old.pending.items ++ record {
-        worker = x.worker;
-        object = j;
-      } ∷ [] → (result : Result Unit Rejection) → IsPassed old.objects.items new.objects.items j x
+      → (new : Monitor) → new.pending.items ≡ old.pending.items ++ invoked_by x j op ∷ []
+      → (result : Result Unit Rejection) → IsPassed old.objects.items new.objects.items j x
       result → Verdict kinds past x new result
   invoked j op is less new more result t =
       passed kinds past x h fits old w j
       (ap (λ a. object_of a (pending_of x.worker (pending_calls past))) is)
       (subst (λ a. HasRoom a (length (pending_calls past))) (sym is) (omega (arith, entries, less)))
       (omega (arith, entries, few)) new
-      (more ∙ ap (λ zs. zs ++ record { worker = x.worker; object = j } ∷ []) w.pending
-      ∙ sym (map-append entry (pending_calls past) (invoked_by x j op ∷ []))
-      ∙ sym (ap (λ a. map entry (pending_after x a (pending_calls past))) is)) result t
+      (more ∙ ap (λ zs. zs ++ invoked_by x j op ∷ []) w.pending
+      ∙ sym (ap (λ a. pending_after x a (pending_calls past)) is)) result t
 
   pub nobody : (r : Reply) → x.action ≡ Respond r
-      → position (is_his x.worker) old.pending.items ≡ None → ⊥
+      → pending_of x.worker old.pending.items ≡ None → ⊥
   nobody r is none =
-      let nothing : pending_of x.worker (pending_calls past) ≡ None = at_none x.worker
-      (pending_calls past) (subst (λ ps. position (is_his x.worker) ps ≡ None) w.pending none) in
-      subst (IsNext kinds (Respond r)) nothing
+      subst (IsNext kinds (Respond r)) (ap (pending_of x.worker) (sym w.pending) ∙ none)
       (subst (λ a. IsNext kinds a (pending_of x.worker (pending_calls past))) is h.1)
 
-  pub responded : (r : Reply) → x.action ≡ Respond r → (i : ℕ) (p : Pending)
-      → position (is_his x.worker) old.pending.items ≡ Some i → p ≡ get_or old.pending.items i p
+  pub responded : (r : Reply) → x.action ≡ Respond r → (i : ℕ) (p : PendingCall)
+      → IsPendingOf old.pending.items x.worker i → p ≡ get_or old.pending.items i p
       → (new : Monitor) → new.pending.items ≡ remove old.pending.items i
       → (result : Result Unit Rejection) → IsPassed old.objects.items new.objects.items p.object x
       result → Verdict kinds past x new result
   responded r is i p found got new less result t =
-      let at : IsAt x.worker (pending_calls past) i p =
-      at_position x.worker (pending_calls past) i p
-      (subst (λ ps. position (is_his x.worker) ps ≡ Some i) w.pending found)
-      (got ∙ ap (λ ps. get_or ps i p) w.pending) in
       passed kinds past x h fits old w p.object
       (ap (λ a. object_of a (pending_of x.worker (pending_calls past))) is
-      ∙ ap (object_of (Respond r)) at.his ∙ ap (λ (q : Pending). Some q.object) (sym at.same))
+      ∙ ap (λ os. object_of (Respond r) (pending_of x.worker os)) (sym w.pending)
+      ∙ ap (object_of (Respond r)) (found.first p) ∙ ap (λ (q : PendingCall). Some q.object)
+      (sym got))
       (subst (λ a. HasRoom a (length (pending_calls past))) (sym is) tt)
       (omega (arith, entries, few)) new
-      (less ∙ ap (λ ps. remove ps i) w.pending ∙ at.rest
-      ∙ sym (ap (λ a. map entry (pending_after x a (pending_calls past))) is)) result t
+      (less ∙ sym found.others ∙ ap (without x.worker) w.pending
+      ∙ sym (ap (λ a. pending_after x a (pending_calls past)) is)) result t

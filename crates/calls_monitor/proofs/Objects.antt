@@ -13,17 +13,16 @@ use Rattle.calls_core.specs.Histories.{clock, pending_calls, IsHistoryOf}
 use Rattle.calls_core.specs.Outcomes.{HasOrderOf}
 use Rattle.calls_core.proofs.Lists.{all_pairs_from_each}
 use Rattle.calls_core.specs.Linearizations.{KeepsOrder}
-use Rattle.calls_counts.specs.declared.state.NotedCall.{NotedCall}
+use Rattle.calls_core.specs.declared.pending.NotedCall.{NotedCall}
+use Rattle.calls_core.specs.Pending.{HasRoom}
 use Rattle.calls_counts.specs.declared.monitor.Monitor.{Monitor as CountMonitor}
-use Rattle.calls_counts.specs.Monitors.{IsTaken, Starts as CountStarts, HasRoom}
+use Rattle.calls_counts.specs.Monitors.{IsTaken, Starts as CountStarts}
 use Rattle.calls_counts.specs.Watching.{Watching}
 use Rattle.calls_counts.proofs.Watching.{taken_by}
-use Rattle.calls_tickets.specs.declared.pending.PendingTicket.{PendingTicket}
 use Rattle.calls_tickets.specs.declared.monitor.Monitor.{Monitor as TicketMonitor}
 use Rattle.calls_tickets.specs.Monitors.{IsAccepted as IsTicketed, Watches as TicketWatches}
 use Rattle.calls_semaphores.specs.declared.monitor.Monitor.{Monitor as UnitMonitor}
-use Rattle.calls_semaphores.specs.Monitors.{Grows, UpTo}
-use Rattle.calls_semaphores.specs.Monitors.{Judges as UnitJudges}
+use Rattle.calls_semaphores.specs.Monitors.{Grows, UpTo, Judges as UnitJudges}
 use Rattle.calls_semaphores.specs.declared.fault.Fault.{Fault}
 use Rattle.calls_monitor.specs.declared.object.Watch.{Watch}
 use Rattle.calls_monitor.specs.declared.object.Watch.TheVariants.{Count, Ticket, Units, Nothing}
@@ -129,7 +128,7 @@ module _ (x : Event) (past : List Event) (a : Action)
   ticket_roomy m t =
       let os = m.pending.items in
       at_most a (length os) (length (pending_calls past))
-      (sym (length-map os (λ (u : PendingTicket). u.call)) ∙ sym
+      (sym (length-map os (λ (u : NotedCall). u.call)) ∙ sym
       (ap length t.watches.follows.pending_is)) room
 
   pub roomy : (kind : Kind) (w : Watch) → IsHistoryOf kind past → WatchesOf kind past w

@@ -3,7 +3,6 @@ use Rattle.std.specs.Prelude.{◌≡◌, ℕ, ◌+◌, ◌<◌, List, ◌∷◌,
 use Rattle.std.specs.Prelude.{Option, Some, None, Result, Ok, Err, false}
 use Rattle.calls_core.specs.declared.history.TheConstants.{WORKERS}
 use Rattle.calls_core.specs.declared.history.Kind.{Kind}
-use Rattle.calls_core.specs.declared.history.Kind.TheVariants.{Eventcount, Sequencer, Semaphores}
 use Rattle.calls_core.specs.declared.history.Kind.TheVariants.{Cell, Database}
 use Rattle.calls_core.specs.declared.history.Event.{Event}
 use Rattle.calls_core.specs.Histories.{pending_calls, IsHistory, part}
@@ -20,11 +19,9 @@ use Rattle.calls_monitor.specs.kept.Watching.{Watches}
 
 -- which objects are watched: all but cells and databases
 abbrev pub IsWatched : Kind → Type 0
-IsWatched (Eventcount n) = Unit {0}
-IsWatched Sequencer = Unit {0}
-IsWatched (Semaphores units) = Unit {0}
 IsWatched Cell = ⊥
 IsWatched (Database n) = ⊥
+IsWatched _ = Unit {0}
 
 abbrev pub AreWatched : List Kind → Type 0
 AreWatched kinds = (k : ℕ) (kind : Kind) → slice_get kinds k ≡ Some kind → IsWatched kind

@@ -1,25 +1,14 @@
 //! A monitor of a whole history: it judges the calls of each object event by event, in constant
 //! memory.
-ghost use Rattle.std.specs.Prelude.{◌≡◌, ◌==◌, [], IfOk};
-ghost use Rattle.std.specs.List.{position};
-ghost use Rattle.calls_monitor.specs.declared.monitor.Pending.{Pending};
+ghost use Rattle.std.specs.Prelude.{◌≡◌, [], IfOk};
 ghost use Rattle.calls_monitor.specs.Monitors.{Judges};
 ghost use Rattle.calls_monitor.specs.kept.Watching.{Watches, IsPassed};
 
 use crate::Refusal;
 use crate::object::Watch;
 use arrayvec::ArrayVec;
-use calls_core::{Action, Event, Kind, WORKERS};
+use calls_core::{Action, Event, Kind, PendingCall, WORKERS, find};
 use std::alloc::{AllocError, Global};
-
-/// The worker and the object of a pending call.
-#[derive(Clone, Copy, Default)]
-pub(crate) struct Pending {
-    /// The worker.
-    pub(crate) worker: usize,
-    /// The index of the object.
-    pub(crate) object: usize,
-}
 
 /// The state after the events so far.
 #[derive(Drop)]
@@ -27,7 +16,7 @@ pub struct Monitor {
     /// The monitor of each object.
     pub(crate) objects: Vec<Watch>,
     /// The pending calls, in the order of their invocations.
-    pub(crate) pending: ArrayVec<Pending, WORKERS>,
+    pub(crate) pending: ArrayVec<PendingCall, WORKERS>,
 }
 
 /// Which object's calls have no linearization, so that the history has none, and why.
@@ -46,13 +35,6 @@ pub enum Rejection {
     Refused(Refused),
     /// The event invokes a call while `WORKERS` calls are pending. The monitor is unchanged.
     Full,
-}
-
-/// Returns the index of the pending call of a worker.
-fn find(pending: &[Pending], worker: usize) -> Option<usize>
-    ensures { result ≡ position (λ (p : Pending). p.worker == worker) pending.now }
-{
-    pending.iter().position(|p| p.worker == worker)
 }
 
 impl Monitor {
@@ -77,14 +59,11 @@ impl Monitor {
         // Read so that the proof has its range: no history is too long to count.
         let _at = event.at;
         match event.action {
-            Action::Invoke(object, _op) => {
+            Action::Invoke(object, op) => {
                 if self.pending.is_full() {
                     return Err(Rejection::Full);
                 }
-                self.pending.push(Pending {
-                    worker: event.worker,
-                    object,
-                });
+                self.pending.push(PendingCall::new(event, object, op));
                 self.pass_to_object(object, event)
             }
             Action::Respond(_reply) => {

@@ -1,8 +1,8 @@
 //! The monitor of one object.
 ghost use Rattle.std.specs.Prelude.{◌↔◌, [], IfOk, IsTrue};
+ghost use Rattle.calls_core.specs.Pending.{HasRoom};
 ghost use Rattle.calls_monitor.specs.declared.object.Watch.TheVariants.{Count};
 ghost use Rattle.calls_monitor.specs.kept.Watching.{WatchesOf, RoomFor, JudgesOf};
-ghost use Rattle.calls_counts.specs.Monitors.{HasRoom};
 
 use calls_core::{Action, Event, Kind, WORKERS};
 use std::alloc::{AllocError, Global};

@@ -1,9 +1,8 @@
 -- The steps of a monitor.
 use Rattle.std.proofs.Common.{◌≡◌, ℕ, true, false, List, [], ◌∷◌, ◌++◌, length, Some, None, refl}
-use Rattle.std.proofs.Common.{ap, sym, ◌∙◌, arith, subst, Vec}
+use Rattle.std.proofs.Common.{ap, sym, ◌∙◌, arith, subst, Vec, get_or}
 use Rattle.std.specs.declared.alloc.Global.{Global}
-use Rattle.std.specs.List.{position, remove}
-use Rattle.std.proofs.lemmas.List.{map-id}
+use Rattle.std.specs.List.{remove}
 use Rattle.calls_core.specs.declared.history.Kind.TheVariants.{Semaphores}
 use Rattle.calls_core.specs.declared.history.Op.{Op}
 use Rattle.calls_core.specs.declared.history.Reply.{Reply}
@@ -12,6 +11,7 @@ use Rattle.calls_core.specs.declared.history.Event.{Event}
 use Rattle.calls_core.specs.declared.history.PendingCall.{PendingCall}
 use Rattle.calls_core.specs.Histories.{IsHistoryOf, clock, completion, pending_calls, pending_of}
 use Rattle.calls_core.specs.Histories.{without, invoked_by}
+use Rattle.calls_core.specs.Pending.{IsPendingOf}
 use Rattle.calls_semaphores.specs.declared.bank.Bank.{Bank}
 use Rattle.calls_semaphores.specs.declared.monitor.Monitor.{Monitor}
 use Rattle.calls_semaphores.specs.Monitors.{Represents, IsRefusedAt}
@@ -19,7 +19,7 @@ use Rattle.calls_semaphores.specs.Keeping.{is_v, IsOpened, AreAdded, TakenAs}
 use Rattle.calls_semaphores.proofs.Counts.{pending_invoke, pending_respond}
 use Rattle.calls_semaphores.proofs.Deciding.{HasKept, no_pending, kept_start, kept_of_order}
 use Rattle.calls_semaphores.proofs.Deciding.{has_order, has_invoked, has_v, has_other}
-use Rattle.calls_semaphores.proofs.Scanning.{is_his, IsAt, at_none, left_start, left_invoked}
+use Rattle.calls_semaphores.proofs.Scanning.{left_start, left_invoked}
 use Rattle.calls_semaphores.proofs.Scanning.{left_now, some_left, refused}
 
 pub monitor_start : (units : Vec ℕ Global) (m : Monitor) → IsOpened units.items m.bank
@@ -47,17 +47,14 @@ module _ (units : Vec ℕ Global) (x : Event) (past : List Event) (h : IsHistory
   }
 
   pub monitor_nobody : (r : Reply) → x.action ≡ Respond r
-      → position (is_his (λ (o : PendingCall). o) x.worker) old.pending.items ≡ None → ⊥
+      → pending_of x.worker old.pending.items ≡ None → ⊥
   monitor_nobody r is none =
-      no_pending units x past h r is (subst (λ os. pending_of x.worker os ≡ None)
-      (map-id old.pending.items ∙ k.pending) (at_none (λ (o : PendingCall). o) x.worker
-      old.pending.items none))
+      no_pending units x past h r is (subst (λ os. pending_of x.worker os ≡ None) k.pending none)
 
   module _ (r : Reply) (is : x.action ≡ Respond r) (i : ℕ) (o : PendingCall)
-      (at : IsAt (λ (p : PendingCall). p) x.worker old.pending.items i o) where
+      (at : IsPendingOf old.pending.items x.worker i) (e : o ≡ get_or old.pending.items i o) where
     found : pending_of x.worker (pending_calls past) ≡ Some o
-    found = subst (λ os. pending_of x.worker os ≡ Some o) (map-id old.pending.items ∙ k.pending)
-        at.his
+    found = ap (pending_of x.worker) (sym k.pending) ∙ at.first o ∙ ap (λ p. Some p) (sym e)
 
     pub monitor_refused : (new : Bank) (index : ℕ) → TakenAs old.bank new o.op r (Some index)
         → IsRefusedAt units past x (record { call = completion x.at r o; index = index })
@@ -75,9 +72,8 @@ module _ (units : Vec ℕ Global) (x : Event) (past : List Event) (h : IsHistory
               (some_left units x past h r o is found old.bank new.bank k.left taken) kept
         ] refl in
         record {
-          pending = pending ∙ sym (map-id (remove old.pending.items i)) ∙ sym at.rest ∙ ap
-              (without x.worker) (map-id old.pending.items ∙ k.pending) ∙ sym
-              (pending_respond x past r is);
+          pending = pending ∙ sym at.others ∙ ap (without x.worker) k.pending
+              ∙ sym (pending_respond x past r is);
           left = left_now units x past h r o is found old.bank new.bank k.left same taken;
           order = has_order units (x ∷ past) now;
         }

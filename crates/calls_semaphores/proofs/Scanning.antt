@@ -7,7 +7,7 @@ use Rattle.std.specs.List.{position, position_from, remove}
 use Rattle.std.proofs.lemmas.Bool.{eqb-true, and_parts}
 use Rattle.std.proofs.lemmas.Iterator.Adapters.{position_from-zero}
 use Rattle.std.proofs.lemmas.List.{map-append}
-use Rattle.std.proofs.lemmas.Option.{slice_get_within}
+use Rattle.std.proofs.lemmas.Option.{slice_get_within, get_or_from_slice_get}
 use Rattle.std.proofs.lemmas.List.Quantifiers.{position-Some}
 use Rattle.calls_core.specs.declared.history.Kind.TheVariants.{Semaphores}
 use Rattle.calls_core.specs.declared.history.Op.{Op}
@@ -25,14 +25,15 @@ use Rattle.calls_core.specs.Histories.{without, invoked_by}
 use Rattle.calls_core.specs.Linearizations.{initial}
 use Rattle.calls_core.proofs.Lists.{each_weaker, each_append, each_both}
 use Rattle.calls_core.proofs.Counting.{one_yes}
+use Rattle.calls_core.specs.declared.pending.NotedCall.{NotedCall}
+use Rattle.calls_core.specs.Pending.{noted_calls, IsNotedOf}
 use Rattle.calls_semaphores.specs.declared.bank.Bank.{Bank}
-use Rattle.calls_semaphores.specs.declared.scan.PendingUnits.{PendingUnits}
 use Rattle.calls_semaphores.specs.declared.scan.Scan.{Scan}
 use Rattle.calls_semaphores.specs.Banks.{takes, took}
 use Rattle.calls_semaphores.specs.Monitors.{AreLeft, IsRefusedAt, units_left, units_taken}
 use Rattle.calls_semaphores.specs.Monitors.{units_added}
 use Rattle.calls_semaphores.specs.Keeping.{is_v, one_if, Distinct, IsOpened, AreAdded, TakenAs}
-use Rattle.calls_semaphores.specs.Keeping.{IsLinearizationSoFar, IsPlaced, calls_in, Holds}
+use Rattle.calls_semaphores.specs.Keeping.{IsLinearizationSoFar, IsPlaced, Holds}
 use Rattle.calls_semaphores.proofs.Runs.{IsOp, state_after}
 use Rattle.calls_semaphores.proofs.Counts.{pending_invoke, pending_respond, completed_respond}
 use Rattle.calls_semaphores.proofs.Counts.{added_invoke, taken_invoke, added_respond, taken_respond}
@@ -43,54 +44,16 @@ use Rattle.calls_semaphores.proofs.Deciding.{shows_new, no_pending, kept_start, 
 
 -- THE PENDING CALL OF A WORKER
 
-module _ {X : Type 0} (g : X → PendingCall) (w : ℕ) where
-  abbrev pub is_his : X → Bool
-  is_his x = (g x).worker == w
+pub record IsAt (us : List NotedCall) (w k : ℕ) (u : NotedCall) : Type 0 where
+  pub item : slice_get us k ≡ Some u
+  pub his : pending_of w (noted_calls us) ≡ Some u.call
+  pub rest : without w (noted_calls us) ≡ noted_calls (remove us k)
 
-  pub record IsAt (xs : List X) (k : ℕ) (x : X) : Type 0 where
-    pub within : k < length xs
-    pub item : slice_get xs k ≡ Some x
-    pub his : pending_of w (map g xs) ≡ Some (g x)
-    pub rest : without w (map g xs) ≡ map g (remove xs k)
-
-  found_at : (xs : List X) (k : ℕ) (d : X) → k < length xs → is_his (get_or xs k d) ≡ true
-      → ((j : ℕ) → j < k → is_his (get_or xs j d) ≡ false) → IsAt xs k (get_or xs k d)
-  found_at [] k d lt own others = absurd (omega arith)
-  found_at (x ∷ xs) zero d lt own others = record {
-    within = lt;
-    item = refl;
-    his = ap (λ b. cond b (Some (g x)) (pending_of w (map g xs))) own;
-    rest = ap (λ b. cond b (map g xs) (g x ∷ without w (map g xs))) own;
-  }
-  found_at (x ∷ xs) (suc k) d lt own others =
-      let r = found_at xs k d (omega arith) own (λ j less. others (suc j) (omega arith)) in
-      let skip = others zero (omega arith) in
-      record {
-        within = lt;
-        item = r.item;
-        his = ap (λ b. cond b (Some (g x)) (pending_of w (map g xs))) skip ∙ r.his;
-        rest = ap (λ b. cond b (map g xs) (g x ∷ without w (map g xs))) skip ∙ ap (λ zs.
-            g x ∷ zs) r.rest;
-      }
-
-  pub at_position : (xs : List X) (k : ℕ) (x : X) → position is_his xs ≡ Some k → x ≡ get_or xs k x
-      → IsAt xs k x
-  at_position xs k x e is =
-      let p = position-Some is_his xs k x e in
-      subst (IsAt xs k) (sym is) (found_at xs k x p.0 p.1 p.2)
-
-  none_from : (i : ℕ) (xs : List X) → position_from is_his i xs ≡ None
-      → pending_of w (map g xs) ≡ None
-  none_from i [] e = refl
-  none_from i (x ∷ xs) e =
-      elim (is_his x) as (λ b. cond b (Some i) (position_from is_his (i + 1) xs) ≡ None
-      → cond b (Some (g x)) (pending_of w (map g xs)) ≡ None) [
-        | true ↦ λ f. absurd (cc)
-        | false ↦ λ f. none_from (i + 1) xs f
-      ] e
-
-  pub at_none : (xs : List X) → position is_his xs ≡ None → pending_of w (map g xs) ≡ None
-  at_none xs e = none_from 0 xs (sym (position_from-zero is_his xs) ∙ e)
+pub at_noted : (us : List NotedCall) (w k : ℕ) (u : NotedCall) → IsNotedOf us w k
+    → u ≡ get_or us k u → IsAt us w k u
+at_noted us w k u h e = subst (IsAt us w k)
+    (sym (get_or_from_slice_get us k h.call u h.at) ∙ sym e)
+    (record { item = h.at; his = h.first; rest = h.others })
 
 -- LISTS
 
@@ -277,27 +240,25 @@ module _ (units : Vec ℕ Global) (x : Event) (past : List Event) (h : IsHistory
 pub scan_start : (units : Vec ℕ Global) (s : Scan) → IsOpened units.items s.bank
     → s.pending.items ≡ [] → s.order.items ≡ [] → Holds units [] s
 scan_start units s opened pending order = record {
-  pending = ap calls_in pending;
+  pending = ap noted_calls pending;
   left = left_start units.items s.bank opened;
   kept = subst (IsLinearizationSoFar units [] s.end) (sym order) (kept_start units s.end);
   places = subst (Each (IsPlaced s.end s.order.items)) (sym pending) tt;
 }
 
-placed_more : (t : ℕ) (cs : List Call) (c : Call) (os : List PendingUnits) → Each (IsPlaced t cs) os
+placed_more : (t : ℕ) (cs : List Call) (c : Call) (os : List NotedCall) → Each (IsPlaced t cs) os
     → Each (IsPlaced t (cs ++ c ∷ [])) os
 placed_more t cs c os h = each_weaker (IsPlaced t cs) (IsPlaced t (cs ++ c ∷ [])) (λ o f v.
-    get_more cs (c ∷ []) o.place (completion t Done o.call) (f v)) os h
+    get_more cs (c ∷ []) o.noted (completion t Done o.call) (f v)) os h
 
 module _ (units : Vec ℕ Global) (x : Event) (past : List Event) (h : IsHistoryOf (Semaphores units)
     (x ∷ past)) (old : Scan) (k : Holds units past old) (r : Reply) (is : x.action ≡ Respond r)
   where
-    pub scan_nobody : position (is_his (λ (o : PendingUnits). o.call) x.worker) old.pending.items
-        ≡ None → ⊥
+    pub scan_nobody : pending_of x.worker (noted_calls old.pending.items) ≡ None → ⊥
     scan_nobody none = no_pending units x past h r is (subst (λ ps.
-        pending_of x.worker ps ≡ None) k.pending (at_none (λ (o : PendingUnits). o.call) x.worker
-        old.pending.items none))
+        pending_of x.worker ps ≡ None) k.pending none)
 
-    module _ (i : ℕ) (o : PendingUnits) (at : IsAt (λ (p : PendingUnits). p.call) x.worker old.pending.items i o)
+    module _ (i : ℕ) (o : NotedCall) (at : IsAt old.pending.items x.worker i o)
       where
         pub scan_found : pending_of x.worker (pending_calls past) ≡ Some o.call
         scan_found = subst (λ ps. pending_of x.worker ps ≡ Some o.call) k.pending at.his
@@ -308,27 +269,27 @@ module _ (units : Vec ℕ Global) (x : Event) (past : List Event) (h : IsHistory
             k.left
             index short
 
-        pub placed_within : is_v o.call.op ≡ true → o.place < length old.order.items
-        placed_within v = slice_get_within old.order.items o.place (completion old.end Done o.call)
+        pub placed_within : is_v o.call.op ≡ true → o.noted < length old.order.items
+        placed_within v = slice_get_within old.order.items o.noted (completion old.end Done o.call)
             (each_got (IsPlaced old.end old.order.items) old.pending.items i o k.places at.item v)
 
 module _ (units : Vec ℕ Global) (x : Event) (past : List Event) (h : IsHistoryOf (Semaphores units)
     (x ∷ past)) (old new : Scan) (le : clock (x ∷ past) ≤ old.end) (k : Holds units past old)
     (end : new.end ≡ old.end) where
-  abbrev os : List PendingUnits
+  abbrev os : List NotedCall
   os = old.pending.items
 
   -- INVOCATIONS
 
   module _ (j : ℕ) (op : Op) (is : x.action ≡ Invoke j op) (pending : new.pending.items ≡ os
-      ++ record { call = invoked_by x j op; place = length old.order.items } ∷ [])
+      ++ record { call = invoked_by x j op; noted = length old.order.items } ∷ [])
       (same : length new.bank.added.items ≡ length old.bank.added.items)
       (more : AreAdded old.bank new.bank op) where
-    abbrev it : PendingUnits
-    it = record { call = invoked_by x j op; place = length old.order.items }
+    abbrev it : NotedCall
+    it = record { call = invoked_by x j op; noted = length old.order.items }
 
-    pending_now : calls_in new.pending.items ≡ pending_calls (x ∷ past)
-    pending_now = ap calls_in pending ∙ map-append (λ (o : PendingUnits). o.call) os (it ∷ [])
+    pending_now : noted_calls new.pending.items ≡ pending_calls (x ∷ past)
+    pending_now = ap noted_calls pending ∙ map-append (λ (o : NotedCall). o.call) os (it ∷ [])
         ∙ ap (λ zs.
         zs ++ invoked_by x j op ∷ []) k.pending ∙ sym (pending_invoke x past j op is)
 
@@ -379,20 +340,20 @@ module _ (units : Vec ℕ Global) (x : Event) (past : List Event) (h : IsHistory
 
   -- RESPONSES
 
-  module _ (r : Reply) (is : x.action ≡ Respond r) (i : ℕ) (o : PendingUnits)
-      (at : IsAt (λ (p : PendingUnits). p.call) x.worker os i o) where
+  module _ (r : Reply) (is : x.action ≡ Respond r) (i : ℕ) (o : NotedCall)
+      (at : IsAt os x.worker i o) where
     pub found_now : pending_of x.worker (pending_calls past) ≡ Some o.call
     found_now = subst (λ ps. pending_of x.worker ps ≡ Some o.call) k.pending at.his
 
-    abbrev rest : List PendingUnits
+    abbrev rest : List NotedCall
     rest = remove os i
 
-    rest_is : calls_in rest ≡ without x.worker (pending_calls past)
+    rest_is : noted_calls rest ≡ without x.worker (pending_calls past)
     rest_is = sym at.rest ∙ ap (without x.worker) k.pending
 
-    apart : Each (λ (p : PendingUnits). p.call.first ≡ o.call.first → ⊥) rest
+    apart : Each (λ (p : NotedCall). p.call.first ≡ o.call.first → ⊥) rest
     apart =
-        each_unmapped (λ (p : PendingUnits). p.call) (λ (p : PendingCall). p.first ≡ o.call.first
+        each_unmapped (λ (p : NotedCall). p.call) (λ (p : PendingCall). p.first ≡ o.call.first
         → ⊥) rest
         (subst (Each (λ (p : PendingCall). p.first ≡ o.call.first → ⊥)) (sym rest_is)
         (apart_rest units x past old.end h le r o.call is found_now))
@@ -405,8 +366,8 @@ module _ (units : Vec ℕ Global) (x : Event) (past : List Event) (h : IsHistory
 
     module _ (pending : new.pending.items ≡ rest) (same : length new.bank.added.items
         ≡ length old.bank.added.items) (taken : TakenAs old.bank new.bank o.call.op r None) where
-      pending_left : calls_in new.pending.items ≡ pending_calls (x ∷ past)
-      pending_left = ap calls_in pending ∙ rest_is ∙ sym (pending_respond x past r is)
+      pending_left : noted_calls new.pending.items ≡ pending_calls (x ∷ past)
+      pending_left = ap noted_calls pending ∙ rest_is ∙ sym (pending_respond x past r is)
 
       left_rest : AreLeft units.items (x ∷ past) new.bank
       left_rest = left_now units x past h r o.call is found_now old.bank new.bank k.left same taken
@@ -436,22 +397,22 @@ module _ (units : Vec ℕ Global) (x : Event) (past : List Event) (h : IsHistory
                 (subst (Each (IsPlaced old.end (cs ++ c ∷ []))) (sym pending) placed));
           }
 
-      pub scan_v : is_v o.call.op ≡ true → new.order.items ≡ set old.order.items o.place
+      pub scan_v : is_v o.call.op ≡ true → new.order.items ≡ set old.order.items o.noted
           (completion x.at r o.call) → Holds units (x ∷ past) new
       scan_v v order =
           let c = completion x.at r o.call in
           let cs = old.order.items in
-          let here : slice_get cs o.place ≡ Some (completion old.end Done o.call) =
+          let here : slice_get cs o.noted ≡ Some (completion old.end Done o.call) =
           its_place k.places v in
-          let s = split_get cs o.place (completion old.end Done o.call) here in
+          let s = split_get cs o.noted (completion old.end Done o.call) here in
           let kept : IsLinearizationSoFar units (x ∷ past) old.end (s.prefix ++ c ∷ s.back) =
           responded_v units x past old.end h le r o.call is found_now s.prefix s.back v
           (v_done o.call.op r v (suited units x past old.end h le r o.call is found_now))
           (subst (IsLinearizationSoFar units past old.end) s.is k.kept) in
-          let placed : Each (IsPlaced old.end (set cs o.place c)) rest =
-          each_both (IsPlaced old.end cs) (λ (p : PendingUnits). p.call.first ≡ o.call.first
-          → ⊥) (IsPlaced old.end (set cs o.place c))
-          (λ p f q w. get_other cs o.place p.place c (λ e.
+          let placed : Each (IsPlaced old.end (set cs o.noted c)) rest =
+          each_both (IsPlaced old.end cs) (λ (p : NotedCall). p.call.first ≡ o.call.first
+          → ⊥) (IsPlaced old.end (set cs o.noted c))
+          (λ p f q w. get_other cs o.noted p.noted c (λ e.
           q (let one : Some (completion old.end Done o.call) ≡ Some
           (completion old.end Done p.call) = sym here ∙ ap (slice_get cs) e ∙ f w in
           same_first one)) ∙ f w) rest rest_placed apart in
@@ -463,5 +424,5 @@ module _ (units : Vec ℕ Global) (x : Event) (past : List Event) (h : IsHistory
                 ∙ s.changed c)) kept);
             places = subst (λ t. Each (IsPlaced t new.order.items) new.pending.items) (sym end)
                 (subst (λ zs. Each (IsPlaced old.end zs) new.pending.items) (sym order)
-                (subst (Each (IsPlaced old.end (set cs o.place c))) (sym pending) placed));
+                (subst (Each (IsPlaced old.end (set cs o.noted c))) (sym pending) placed));
           }

@@ -1,6 +1,6 @@
 -- The state of a bank and of the scan. Only the proofs and the private contracts use this.
 use Rattle.std.specs.Prelude.{◌≡◌, ℕ, ◌+◌, ◌-◌, ◌<◌, ◌≤◌, ◌==◌, Bool, true, false, List, ◌∷◌, ◌++◌}
-use Rattle.std.specs.Prelude.{length, map, Option, Some, None, if◌then◌else◌, slice_index}
+use Rattle.std.specs.Prelude.{length, Option, Some, None, if◌then◌else◌, slice_index}
 use Rattle.std.specs.Prelude.{slice_get, Vec}
 use Rattle.std.specs.declared.alloc.Global.{Global}
 use Rattle.std.specs.List.Sorted.{IsPermutation}
@@ -17,9 +17,10 @@ use Rattle.calls_core.specs.Lists.{Each, EachPair}
 use Rattle.calls_core.specs.Histories.{Takes, IsHistoryOf, clock, completion, completed_calls}
 use Rattle.calls_core.specs.Histories.{pending_calls}
 use Rattle.calls_core.specs.Linearizations.{IsLegalHistory, KeepsOrder, answered_calls, initial}
+use Rattle.calls_core.specs.declared.pending.NotedCall.{NotedCall}
+use Rattle.calls_core.specs.Pending.{noted_calls}
 use Rattle.calls_semaphores.specs.declared.bank.Bank.{Bank}
 use Rattle.calls_semaphores.specs.declared.fault.Fault.{Fault}
-use Rattle.calls_semaphores.specs.declared.scan.PendingUnits.{PendingUnits}
 use Rattle.calls_semaphores.specs.declared.scan.Scan.{Scan}
 use Rattle.calls_semaphores.specs.Banks.{adds, takes, took}
 use Rattle.calls_semaphores.specs.Monitors.{AreLeft, IsRefusedAt, UpTo, units_left}
@@ -102,14 +103,11 @@ pub record IsLinearizationSoFar (units : Vec ℕ Global) (past : List Event) (t 
   pub fits : Each (λ (c : Call). Takes (Some (Semaphores units)) c.op) cs
 
 -- a pending v is in the linearization at its place
-abbrev pub IsPlaced : ℕ → List Call → PendingUnits → Type 0
-IsPlaced t cs o = is_v o.call.op ≡ true → slice_get cs o.place ≡ Some (completion t Done o.call)
-
-abbrev pub calls_in : List PendingUnits → List PendingCall
-calls_in os = map (λ (o : PendingUnits). o.call) os
+abbrev pub IsPlaced : ℕ → List Call → NotedCall → Type 0
+IsPlaced t cs o = is_v o.call.op ≡ true → slice_get cs o.noted ≡ Some (completion t Done o.call)
 
 pub record Holds (units : Vec ℕ Global) (past : List Event) (s : Scan) : Type 0 where
-  pub pending : calls_in s.pending.items ≡ pending_calls past
+  pub pending : noted_calls s.pending.items ≡ pending_calls past
   pub left : AreLeft units.items past s.bank
   pub kept : IsLinearizationSoFar units past s.end s.order.items
   pub places : Each (IsPlaced s.end s.order.items) s.pending.items

@@ -2,7 +2,6 @@
 use Rattle.std.specs.Prelude.{◌≡◌, ℕ, ◌+◌, ◌-◌, ◌^◌, ◌<◌, ◌≤◌, List, [], ◌∷◌, length, count_by}
 use Rattle.std.specs.Prelude.{slice_index, Result, Ok, Err, Vec}
 use Rattle.std.specs.declared.alloc.Global.{Global}
-use Rattle.calls_core.specs.declared.history.TheConstants.{WORKERS}
 use Rattle.calls_core.specs.declared.history.Kind.TheVariants.{Semaphores}
 use Rattle.calls_core.specs.declared.history.Action.{Action}
 use Rattle.calls_core.specs.declared.history.Action.TheVariants.{Invoke, Respond}
@@ -44,11 +43,6 @@ pub record Represents (units : Vec ℕ Global) (past : List Event) (m : Monitor)
   pub pending : m.pending.items ≡ pending_calls past
   pub left : AreLeft units.items past m.bank
   pub order : HasOrderOf (Semaphores units) past
-
--- an invocation needs room for a pending call
-abbrev pub HasRoom : Action → ℕ → Type 0
-HasRoom (Invoke k op) n = n < WORKERS
-HasRoom (Respond r) n = Unit {0}
 
 -- each of the numbers is at most n
 abbrev pub UpTo : ℕ → List ℕ → Type 0

@@ -1,14 +1,12 @@
 //! A monitor of one bank: it judges a history event by event, in constant memory.
-ghost use Rattle.std.specs.Prelude.{◌≡◌, ◌-◌, ◌==◌, IfOk};
-ghost use Rattle.std.specs.List.{position};
-ghost use Rattle.calls_core.specs.declared.history.PendingCall.{PendingCall};
+ghost use Rattle.std.specs.Prelude.{◌-◌, IfOk};
+ghost use Rattle.calls_core.specs.Pending.{HasRoom};
 ghost use Rattle.arrayvec.specs.ArrayVec.{array_vec_len};
-ghost use Rattle.calls_semaphores.specs.Monitors.{HasRoom, Judges, Grows, Starts};
+ghost use Rattle.calls_semaphores.specs.Monitors.{Judges, Grows, Starts};
 
-use crate::scan::invoked_by;
 use crate::{Bank, Fault};
 use arrayvec::ArrayVec;
-use calls_core::{Action, Event, PendingCall, WORKERS};
+use calls_core::{Action, Event, PendingCall, WORKERS, find};
 use std::alloc::{AllocError, Global};
 
 /// The state after the events so far, with at most `WORKERS` pending calls.
@@ -18,13 +16,6 @@ pub struct Monitor {
     pub bank: Bank,
     /// The pending calls, in the order of their invocations.
     pub pending: ArrayVec<PendingCall, WORKERS>,
-}
-
-/// Returns the index of the pending call of a worker.
-fn find(pending: &[PendingCall], worker: usize) -> Option<usize>
-    ensures { result ≡ position (λ (o : PendingCall). o.worker == worker) pending.now }
-{
-    pending.iter().position(|o| o.worker == worker)
 }
 
 impl Monitor {
@@ -50,7 +41,7 @@ impl Monitor {
     {
         match event.action {
             Action::Invoke(object, op) => {
-                self.pending.push(invoked_by(event, object, op));
+                self.pending.push(PendingCall::new(event, object, op));
                 self.bank.add(op);
                 Ok(())
             }

@@ -1,34 +1,25 @@
 //! Decides a history in one pass.
-ghost use Rattle.std.specs.Prelude.{◌≡◌, ◌-◌, ◌<◌, ◌≤◌, ◌==◌, ◌^◌, [], IfOk, length, reverse};
-ghost use Rattle.std.specs.List.{position};
+ghost use Rattle.std.specs.Prelude.{◌≡◌, ◌-◌, ◌<◌, ◌≤◌, ◌^◌, [], IfOk, length, reverse};
 ghost use Rattle.calls_core.specs.declared.history.Kind.TheVariants.{Semaphores};
 ghost use Rattle.calls_core.specs.declared.history.Action.TheVariants.{Invoke, Respond};
-ghost use Rattle.calls_core.specs.Histories.{IsHistoryOf, clock, invoked_by};
-ghost use Rattle.calls_semaphores.specs.declared.scan.PendingUnits.{PendingUnits};
+ghost use Rattle.calls_core.specs.Histories.{IsHistoryOf, clock};
 ghost use Rattle.calls_semaphores.specs.Monitors.{UpTo, GrowsByOne};
 ghost use Rattle.calls_semaphores.specs.Keeping.{is_v, IsOpened, Steps};
 ghost use Rattle.calls_semaphores.specs.Outcomes.{IsOutcome};
 
 use crate::{Bank, Fault, Outcome};
-use calls_core::{Action, Call, Event, Op, Part, PendingCall, PlacedCalls, Reply};
+use calls_core::{
+    Action, Call, Event, NotedCall, Op, Part, PendingCall, PlacedCalls, Reply, find_noted,
+};
 use std::alloc::{AllocError, Global};
-
-/// A pending call, and its index in the linearization so far.
-#[derive(Clone, Copy)]
-pub(crate) struct PendingUnits {
-    /// The call.
-    pub(crate) call: PendingCall,
-    /// Its index in the linearization, if it is a v.
-    pub(crate) place: usize,
-}
 
 /// The state of the scan after the events so far.
 #[derive(Drop)]
 pub(crate) struct Scan {
     /// The units that are left.
     pub(crate) bank: Bank,
-    /// The pending calls.
-    pub(crate) pending: Vec<PendingUnits>,
+    /// The pending calls, each with the length of `order` at its invocation, where a v is.
+    pub(crate) pending: Vec<NotedCall>,
     /// A linearization, in which a pending v has its response at `end`.
     pub(crate) order: Vec<Call>,
     /// The first position after all events.
@@ -40,25 +31,6 @@ fn is_v(op: Op) -> bool
     ensures { result ≡ is_v op }
 {
     matches!(op, Op::V(_))
-}
-
-/// Returns the call that an invocation begins.
-pub(crate) fn invoked_by(event: Event, object: usize, op: Op) -> PendingCall
-    ensures { result ≡ invoked_by event object op }
-{
-    PendingCall {
-        worker: event.worker,
-        object,
-        op,
-        first: event.at,
-    }
-}
-
-/// Returns the index of the pending call of a worker.
-fn find(pending: &[PendingUnits], worker: usize) -> Option<usize>
-    ensures { result ≡ position (λ (o : PendingUnits). o.call.worker == worker) pending.now }
-{
-    pending.iter().position(|o| o.call.worker == worker)
 }
 
 impl Scan {
@@ -83,9 +55,9 @@ impl Scan {
         ensures step { IfOk result (λ u. event.action ≡ Invoke object op
             → Steps self.old self.new event None) }
     {
-        let call = invoked_by(event, object, op);
-        let place = self.order.len();
-        self.pending.push(PendingUnits { call, place })?;
+        let call = PendingCall::new(event, object, op);
+        let noted = self.order.len();
+        self.pending.push(NotedCall { call, noted })?;
         self.bank.add(op);
         if !is_v(op) {
             return Ok(());
@@ -101,7 +73,7 @@ impl Scan {
         ensures step { IfOk result (λ f. event.action ≡ Respond reply
             → Steps self.old self.new event f) }
     {
-        let Some(k) = find(&self.pending, event.worker) else {
+        let Some(k) = find_noted(&self.pending, event.worker) else {
             return Ok(None);
         };
         let open = self.pending.remove(k);
@@ -111,8 +83,8 @@ impl Scan {
         }
         if !is_v(call.op) {
             self.order.push(call)?;
-        } else if open.place < self.order.len() {
-            self.order[open.place] = call;
+        } else if open.noted < self.order.len() {
+            self.order[open.noted] = call;
         }
         Ok(None)
     }

@@ -25,9 +25,10 @@ use Rattle.calls_core.specs.Beginnings.{past_at}
 use Rattle.calls_core.specs.Completions.{settle_call}
 use Rattle.calls_core.specs.Outcomes.{IsOrderOf, HasOrderOf}
 use Rattle.calls_core.proofs.Lists.{each_weaker}
-use Rattle.calls_core.proofs.Positions.{each_call_by, are_calls_of}
+use Rattle.calls_core.proofs.Positions.{each_call_by, are_calls_of, early_calls}
 use Rattle.calls_core.proofs.Settling.{order_at}
-use Rattle.calls_core.proofs.Beginnings.{past_split, history_at, orders_before}
+use Rattle.calls_core.proofs.Beginnings.{past_split, history_at, orders_before, past_next, past_all}
+use Rattle.calls_core.proofs.Beginnings.{clock_at}
 use Rattle.calls_serial.specs.declared.outcome.Fault.{Fault}
 use Rattle.calls_serial.specs.declared.stage.Stage.{Stage}
 use Rattle.calls_serial.specs.declared.stage.Link.{Link}
@@ -40,14 +41,9 @@ use Rattle.calls_serial.specs.kept.Stages.{first_stage}
 use Rattle.calls_serial.specs.Outcomes.{IsOutcome}
 use Rattle.calls_serial.specs.kept.Passing.{Holding, EndsCall, IsInvoked}
 use Rattle.calls_serial.specs.kept.Passing.{Invokes}
-use Rattle.calls_serial.specs.kept.Passing.{Holds, Stops, TakesIn, IsCallAt, outcome_of}
+use Rattle.calls_serial.specs.kept.Passing.{Holds, Stops, TakesIn}
 use Rattle.calls_serial.proofs.Ordering.{ordered, all_calls_append}
-
-pub early_calls : (past : List Event) → IsHistoryOf Cell past
-    → Each (λ (c : Call). c.last < clock past) (completed_calls past)
-early_calls past h =
-    each_weaker (IsCallOf Cell (clock past)) (λ (c : Call). c.last < clock past) (λ c k. k.early)
-    (completed_calls past) (are_calls_of Cell past h).completed
+use Rattle.calls_serial.specs.declared.outcome.Outcome.TheVariants.{Refused, Overlapping}
 
 -- AN INVOCATION
 
@@ -58,7 +54,7 @@ pub invoked_past : (end : ℕ) (past : List Event) (x : Event) (k : ℕ) (op : O
 invoked_past end past x k op old new stop e h lt holds inv =
     subst (λ (y : Event). Stops end (y ∷ past) new stop) (sym event)
     (by stop (inv (clock past) (completed_calls past) (pending_calls past)
-    (early_calls past h.2) (are_calls_of Cell past h.2).early h.0 lt holds.pending holds.holding))
+    (early_calls Cell past h.2) (are_calls_of Cell past h.2).early h.0 lt holds.pending holds.holding))
   where
     event : x ≡ record { at = x.at; worker = x.worker; action = Invoke k op }
     event = ap (λ (a : Action).
@@ -96,7 +92,7 @@ responded_past end past x r o old new call fault e h lt ours same rest holding e
     (ends end (clock past) (completed_calls past) (pending_calls past) x.worker x.at r o
     (record {
       ours = ours;
-      early = early_calls past h.2;
+      early = early_calls Cell past h.2;
       waiting = (are_calls_of Cell past h.2).early;
       later = h.0;
       before = lt;
@@ -188,26 +184,6 @@ has_order end past pass h le holds = (
 
 -- BY INDEX
 
-clock_of : (late past : List Event) → IsHistoryOf Cell (late ++ past)
-    → clock past ≤ clock (late ++ past)
-clock_of [] past h = omega arith
-clock_of (x ∷ late) past h =
-    (let before = clock_of late past h.2 in
-    let next : clock (late ++ past) ≤ x.at = h.0 in
-    omega arith)
-
-pub clock_at : (i : ℕ) (events : List Event) → IsHistoryOf Cell (reverse events)
-    → clock (past_at i events) ≤ clock (reverse events)
-clock_at i events h =
-    subst (λ p. clock (past_at i events) ≤ clock p) (sym (past_split i events))
-    (clock_of (reverse (drop i events)) (past_at i events)
-    (subst (IsHistoryOf Cell) (past_split i events) h))
-
-pub past_next : (events : List Event) (i : ℕ) (d : Event) → i < length events
-    → past_at (i + 1) events ≡ get_or events i d ∷ past_at i events
-past_next events i d lt =
-    ap reverse (take_more events i d lt) ∙ reverse-append (take i events) (get_or events i d ∷ [])
-
 module _ (end i : ℕ) (events : List Event) (d : Event) (lt : i < length events)
     (h : IsHistoryOf Cell (reverse events)) (le : clock (reverse events) ≤ end) (old new : Pass)
     (holds : Holds end (past_at i events) old) (stop : Option Stop)
@@ -218,17 +194,21 @@ module _ (end i : ℕ) (events : List Event) (d : Event) (lt : i < length events
       let at : (get_or events i d).at + 1 ≡ clock (past_at (i + 1) events) = ap clock (sym next) in
       subst (λ p. Stops end p new stop) (sym next)
       (took (past_at i events) (subst (IsHistoryOf Cell) next (history_at Cell (i + 1) events h))
-      (let c = clock_at (i + 1) events h in omega arith) holds))
+      (let c = clock_at Cell (i + 1) events h in omega arith) holds))
 
-  pub stopped : (z : Stop) → stop ≡ Some z → IsOutcome Cell events end (outcome_of i z)
-  stopped (Fails fault) e = record {
+  pub failed : (fault : Fault) → stop ≡ Some (Fails fault)
+      → IsOutcome Cell events end (Refused i fault)
+  failed fault e = record {
     within = lt;
     shows = subst (Stops end (past_at (i + 1) events) new) e stops_at;
     before = λ j less. orders_before Cell i j events less (history_at Cell i events h)
         (has_order end (past_at i events) old (history_at Cell i events h)
-        (let c = clock_at i events h in omega arith) holds);
+        (let c = clock_at Cell i events h in omega arith) holds);
   }
-  stopped (Overlaps o p) e = record {
+
+  pub overlapped : (o p : PendingCall) → stop ≡ Some (Overlaps o p)
+      → IsOutcome Cell events end (Overlapping o p)
+  overlapped o p e = record {
     moment = i + 1;
     within = omega arith;
     both = subst (Stops end (past_at (i + 1) events) new) e stops_at;
@@ -237,15 +217,6 @@ module _ (end i : ℕ) (events : List Event) (d : Event) (lt : i < length events
   pub holds_next : stop ≡ None → Holds end (past_at (i + 1) events) new
   holds_next e = subst (Stops end (past_at (i + 1) events) new) e stops_at
 
-pub past_all : (events : List Event) (i : ℕ) → length events ≤ i
-    → past_at i events ≡ reverse events
-past_all events i le = ap reverse (take_all i events le)
-
-pub if_ok : {X Y : Type 0} (P Q : X → Type 0) (res : Result X Y) → ((r : X) → P r → Q r)
-    → IfOk res P → IfOk res Q
-if_ok P Q (Ok r) f h = f r h
-if_ok P Q (Err e) f h = tt
-
 -- the order of all calls, at the end
 pub order_all : (end i : ℕ) (events : List Event) (pass : Pass) → length events ≤ i
     → Holds end (past_at i events) pass
@@ -253,16 +224,6 @@ pub order_all : (end i : ℕ) (events : List Event) (pass : Pass) → length eve
 order_all end i events pass le h =
     subst (λ p. IsOrderOf Cell p end (all_calls (helds pass.stages.items))) (past_all events i le)
     (holds_order end (past_at i events) pass h)
-
-pub taken_call : (xs ys calls rest : List PendingCall) (w i : ℕ) (o : PendingCall) → xs ≡ ys
-    → ys ≡ calls → IsCallAt xs w i → o ≡ get_or ys i o → rest ≡ remove ys i
-    → (pending_of w calls ≡ Some o) × (rest ≡ without w calls)
-taken_call xs ys calls rest w i o same are k at left =
-    (let own : o ≡ k.call =
-    at ∙ ap (λ zs. get_or zs i o) (sym same) ∙ get_or_from_slice_get xs i k.call o k.here in (
-      ap (pending_of w) (sym (same ∙ are)) ∙ k.his ∙ ap Some (sym own),
-      left ∙ ap (λ zs. remove zs i) (sym same) ∙ sym k.others ∙ ap (without w) (same ∙ are),
-    ))
 
 pub order_more : (stages : List Stage) (i : ℕ) (d : Stage) (calls more : List Call)
     → i < length stages → calls ≡ all_calls (helds (take i stages))

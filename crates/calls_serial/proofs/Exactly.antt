@@ -21,7 +21,7 @@ use Rattle.calls_core.specs.Histories.{clock, pending_of, without, invoked_by, p
 use Rattle.calls_core.specs.Histories.{completion, ended_call, completed_calls, Takes, Suits}
 use Rattle.calls_core.specs.Histories.{IsNextOf, IsHistoryOf}
 use Rattle.calls_core.specs.Outcomes.{HasOrderOf}
-use Rattle.calls_core.proofs.Positions.{each_call_by, are_calls_of}
+use Rattle.calls_core.proofs.Positions.{each_call_by, are_calls_of, early_calls}
 use Rattle.calls_serial.specs.declared.stage.Link.{Link}
 use Rattle.calls_serial.specs.Faults.{Leaves, HasNoneLeft}
 use Rattle.calls_serial.specs.kept.Stages.{StageView, is_put, IsOver, Begins, gets_of_link, current}
@@ -36,7 +36,7 @@ use Rattle.calls_serial.proofs.Growing.{leaves_grow, only_invoked, only_responde
 use Rattle.calls_serial.proofs.Finding.{begins_passed}
 use Rattle.calls_serial.proofs.Ending.{begins_taken, placed_in, late_in, fault_in}
 use Rattle.calls_serial.proofs.Ending.{completed_in, other_in, put_in, both_pending}
-use Rattle.calls_serial.proofs.Deciding.{early_calls, begun_holding, holding_order}
+use Rattle.calls_serial.proofs.Deciding.{begun_holding, holding_order}
 
 -- THE SEARCH
 
@@ -158,7 +158,7 @@ shown_invoked : (x : Event) (k : ℕ) (op : Op) (past : List Event) → IsHistor
     → Leaves (completed_calls past) (pending_calls past ++ invoked_by x k op ∷ []) gets None
 shown_invoked x k op past h le gets l =
     leaves_grow (completed_calls past) (completed_calls past) (pending_calls past)
-    (pending_calls past ++ invoked_by x k op ∷ []) (clock past) (early_calls past h)
+    (pending_calls past ++ invoked_by x k op ∷ []) (clock past) (early_calls Cell past h)
     (only_invoked (completed_calls past) (pending_calls past) (clock past) (invoked_by x k op) le)
     gets None l
 
@@ -169,7 +169,7 @@ shown_responded : (x : Event) (r : Reply) (o : PendingCall) (past : List Event)
     (without x.worker (pending_calls past)) gets None
 shown_responded x r o past h ours gets l =
     leaves_grow (completed_calls past) (completion x.at r o ∷ completed_calls past)
-    (pending_calls past) (without x.worker (pending_calls past)) (clock past) (early_calls past h)
+    (pending_calls past) (without x.worker (pending_calls past)) (clock past) (early_calls Cell past h)
     (only_responded (completed_calls past) (pending_calls past) (clock past) x.worker x.at r o ours)
     gets None l
 
@@ -391,7 +391,7 @@ module _ (end : ℕ) (x : Event) (past : List Event) (le : clock past ≤ x.at) 
       → ⊥)
       → Keeps end past → Keeps end (event_of x (Invoke k op) ∷ past)
   invoked_more k op serial (inl s) =
-      invoked end (clock past) (completed_calls past) (pending_calls past) (early_calls past h)
+      invoked end (clock past) (completed_calls past) (pending_calls past) (early_calls Cell past h)
       (invoked_by x k op) s.0 s.1 s.2 le lt (are_calls_of Cell past h).early serial
   invoked_more k op serial (inr s) = inr (s.0, shown_invoked x k op past h le s.0 s.1)
 
@@ -400,11 +400,11 @@ module _ (end : ℕ) (x : Event) (past : List Event) (le : clock past ≤ x.at) 
       → Kept end (x.at + 1) (completion x.at r o ∷ completed_calls past)
       (without x.worker (pending_calls past))
   responded_more r o ours suits (inl s) =
-      responded end (clock past) (completed_calls past) (pending_calls past) (early_calls past h)
+      responded end (clock past) (completed_calls past) (pending_calls past) (early_calls Cell past h)
       x.worker x.at r o s.0 s.1
       (record {
         ours = ours;
-        early = early_calls past h;
+        early = early_calls Cell past h;
         waiting = (are_calls_of Cell past h).early;
         later = le;
         before = lt;

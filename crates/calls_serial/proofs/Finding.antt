@@ -23,50 +23,9 @@ use Rattle.calls_serial.specs.kept.Stages.{gets_of_link, IsPassed, NextLater, Ne
 use Rattle.calls_serial.specs.kept.Stages.{IsAt}
 use Rattle.calls_serial.specs.kept.Stages.{IsFound, IsEarly, links_with, with_get, with_late}
 use Rattle.calls_serial.specs.kept.Stages.{with_response}
-use Rattle.calls_serial.specs.kept.Passing.{IsCallAt, first_of, IsLate}
+use Rattle.calls_serial.specs.kept.Passing.{first_of, IsLate}
 use Rattle.std.specs.Prelude.{IsTrue, ◌↔◌}
 use Rattle.calls_serial.proofs.Growing.{puts_yes, puts_no}
-
--- THE PENDING CALL OF A WORKER
-
-abbrev pub NotHis : List PendingCall → ℕ → ℕ → Type 0
-NotHis pending w k = (u : PendingCall) → slice_get pending k ≡ Some u → (u.worker == w) ≡ false
-
-pub not_his : (pending : List PendingCall) (w k : ℕ) (d : PendingCall)
-    → ((get_or pending k d).worker ≡ w → ⊥) → NotHis pending w k
-not_his pending w k d h = λ u at. ne_eqb u.worker w
-    (λ e. h (ap (λ (z : PendingCall). z.worker) (get_or_from_slice_get pending k u d at) ∙ e))
-
-pub none_by : (pending : List PendingCall) (w : ℕ)
-    → ((k : ℕ) → k < length pending → NotHis pending w k) → pending_of w pending ≡ None
-none_by [] w h = refl
-none_by (u ∷ pending) w h =
-    ap (λ b. cond b (Some u) (pending_of w pending)) (h zero (omega arith) u refl)
-    ∙ none_by pending w (λ k lt z at. h (suc k) (omega arith) z at)
-
-pub found_by : (pending : List PendingCall) (w i : ℕ) (d : PendingCall) → i < length pending
-    → (get_or pending i d).worker ≡ w → ((k : ℕ) → k < i → NotHis pending w k)
-    → IsCallAt pending w i
-found_by [] w i d lt e h = absurd (omega arith)
-found_by (u ∷ pending) w zero d lt e h =
-    let own : (u.worker == w) ≡ true = eq-eqb u.worker w e in
-    record {
-      call = u;
-      here = refl;
-      his = ap (λ b. cond b (Some u) (pending_of w pending)) own;
-      others = ap (λ b. cond b pending (u ∷ without w pending)) own;
-    }
-found_by (u ∷ pending) w (suc i) d lt e h =
-    let r = found_by pending w i d (omega arith) e
-    (λ k below z at. h (suc k) (omega arith) z at) in
-    let other : (u.worker == w) ≡ false = h zero (omega arith) u refl in
-    record {
-      call = r.call;
-      here = r.here;
-      his = ap (λ b. cond b (Some u) (pending_of w pending)) other ∙ r.his;
-      others = ap (λ b. cond b pending (u ∷ without w pending)) other
-          ∙ ap (λ os. u ∷ os) r.others;
-    }
 
 -- THE FIRST PUT
 

@@ -18,16 +18,8 @@ pub fn open_stage(
     ensures { IfOk result (λ _. helds stages.new.items ≡ helds stages.old.items
         ++ open_stage end value call ∷ []) }
 {
-    let put = Call {
-        worker: call.worker,
-        object: call.object,
-        op: call.op,
-        reply: Reply::Done,
-        first: call.first,
-        last: end,
-    };
     stages.push(Stage {
-        put: Some(put),
+        put: Some(call.complete(Reply::Done, end)),
         value,
         moment: end,
         link: None,

@@ -4,15 +4,15 @@ ghost use Rattle.calls_core.specs.declared.history.Kind.TheVariants.{Cell};
 ghost use Rattle.calls_core.specs.Histories.{IsHistoryOf, clock};
 ghost use Rattle.calls_serial.specs.kept.Stages.{stage_view, helds, held_calls, all_calls};
 ghost use Rattle.calls_serial.specs.kept.Stages.{first_stage};
-ghost use Rattle.calls_serial.specs.kept.Passing.{Invokes, TakesIn, outcome_of};
+ghost use Rattle.calls_serial.specs.kept.Passing.{Invokes, TakesIn};
 ghost use Rattle.calls_serial.specs.Outcomes.{IsOutcome};
 
 use crate::changes::open_stage;
 use crate::outcome::Outcome;
 use crate::responses::respond;
-use crate::search::{find, pending_put, put_value};
+use crate::search::{pending_put, put_value};
 use crate::stage::{Pass, Stage, Stop};
-use calls_core::{Action, Call, Event, Part, PendingCall, PlacedCalls};
+use calls_core::{Action, Event, Part, PendingCall, PlacedCalls, take_pending};
 use std::alloc::{AllocError, Global};
 
 /// Adds an invocation, or returns two puts that overlap.
@@ -47,27 +47,13 @@ fn take_in(
 {
     match event.action {
         Action::Invoke(object, op) => {
-            let call = PendingCall {
-                worker: event.worker,
-                object,
-                op,
-                first: event.at,
-            };
-            invoke(alloc, pass, call, end)
+            invoke(alloc, pass, PendingCall::new(event, object, op), end)
         }
         Action::Respond(reply) => {
-            let Some(i) = find(&pass.pending, event.worker) else {
+            let Some(pending) = take_pending(&mut pass.pending, event.worker) else {
                 return Ok(None);
             };
-            let pending = pass.pending.remove(i);
-            let call = Call {
-                worker: pending.worker,
-                object: pending.object,
-                op: pending.op,
-                reply,
-                first: pending.first,
-                last: event.at,
-            };
+            let call = pending.complete(reply, event.at);
             match respond(alloc, pass, call)? {
                 Some(fault) => Ok(Some(Stop::Fails(fault))),
                 None => Ok(None),
@@ -121,16 +107,6 @@ fn order(alloc: Global, stages: &[Stage]) -> Result<PlacedCalls, AllocError>
     Ok(calls)
 }
 
-/// Returns the outcome of a stop at the event with index `i`.
-fn outcome_of(i: usize, stop: Stop) -> Outcome
-    ensures { result ≡ outcome_of i stop }
-{
-    match stop {
-        Stop::Fails(fault) => Outcome::Refused(i, fault),
-        Stop::Overlaps(put, other) => Outcome::Overlapping(put, other),
-    }
-}
-
 /// Decides whether a history of a cell has a linearization.
 ///
 /// It returns one, or why there is none. If two of the puts overlap, it may return these instead.
@@ -144,7 +120,10 @@ pub fn decide(alloc: Global, events: &Part<'_, '_>, end: usize) -> Result<Outcom
     for i in 0..events.len() {
         let event = events.at(i);
         if let Some(stop) = take_in(alloc, &mut pass, *event, end)? {
-            return Ok(outcome_of(i, stop));
+            match stop {
+                Stop::Fails(fault) => return Ok(Outcome::Refused(i, fault)),
+                Stop::Overlaps(put, other) => return Ok(Outcome::Overlapping(put, other)),
+            }
         }
     }
     Ok(Outcome::Ordered(order(alloc, &pass.stages)?))

@@ -1,9 +1,8 @@
 //! Searches in the state of the pass.
 ghost use Rattle.std.specs.Prelude.{◌≡◌, ◌<◌, ◌≤◌, ◌↔◌, length, take, MatchOption, IsTrue, false};
-ghost use Rattle.calls_core.specs.Histories.{pending_of};
 ghost use Rattle.calls_serial.specs.kept.Stages.{helds, is_put, pending_puts, Begins, IsOver};
 ghost use Rattle.calls_serial.specs.kept.Stages.{IsFound, IsEarly, IsWithin};
-ghost use Rattle.calls_serial.specs.kept.Passing.{first_of, IsCallAt};
+ghost use Rattle.calls_serial.specs.kept.Passing.{first_of};
 
 use crate::stage::Stage;
 use calls_core::{Call, Op, PendingCall};
@@ -41,19 +40,6 @@ pub fn pending_put(pending: &[PendingCall]) -> Option<PendingCall>
     for call in pending {
         if is_put(call.op) {
             return Some(*call);
-        }
-    }
-    None
-}
-
-/// Returns the index of a worker's pending call.
-pub fn find(pending: &[PendingCall], worker: usize) -> Option<usize>
-    ensures { MatchOption result (pending_of worker pending.now ≡ None)
-        (IsCallAt pending.now worker) }
-{
-    for (i, call) in pending.iter().enumerate() {
-        if call.worker == worker {
-            return Some(i);
         }
     }
     None

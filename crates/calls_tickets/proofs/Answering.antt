@@ -11,19 +11,20 @@ use Rattle.calls_core.specs.declared.history.Call.{Call}
 use Rattle.calls_core.specs.Histories.{clock, completion, pending_calls, completed_calls}
 use Rattle.calls_core.specs.Histories.{IsHistoryOf}
 use Rattle.calls_core.specs.Outcomes.{HasOrderOf}
+use Rattle.calls_core.specs.declared.pending.NotedCall.{NotedCall}
+use Rattle.calls_core.specs.Pending.{IsNotedOf}
 use Rattle.calls_tickets.specs.declared.fault.Fault.{Fault}
-use Rattle.calls_tickets.specs.declared.pending.PendingTicket.{PendingTicket}
 use Rattle.calls_tickets.specs.declared.monitor.Monitor.{Monitor}
 use Rattle.calls_tickets.specs.Faults.{ticket_number, Shows}
 use Rattle.calls_tickets.specs.Monitors.{Watches, IsAccepted, IsRefused}
-use Rattle.calls_tickets.specs.kept.Watching.{Paired, Unpaired, Following, Watching, IsPendingAt}
+use Rattle.calls_tickets.specs.kept.Watching.{Paired, Unpaired, Following, Watching}
 use Rattle.calls_tickets.specs.kept.Watching.{CannotTake, IsTaken, IsPaired}
 use Rattle.calls_tickets.proofs.Histories.{tickets_until}
 use Rattle.calls_tickets.proofs.Refuting.{no_order}
 use Rattle.calls_tickets.proofs.Judging.{watched_order, unpaired_shows}
 use Rattle.calls_tickets.proofs.Stepping.{ended, taken, not_taken}
 
-pub watching_order : (past : List Event) (top : ℕ) (holes : List ℕ) (us : List PendingTicket)
+pub watching_order : (past : List Event) (top : ℕ) (holes : List ℕ) (us : List NotedCall)
     → IsHistoryOf Sequencer past → Watching past top holes us → HasOrderOf Sequencer past
 watching_order past top holes us h w = watched_order past h top holes us w.follows w.paired
 
@@ -33,14 +34,14 @@ shown_no_order past g h shows l =
     no_order (completed_calls past) (pending_calls past) (clock past)
     (tickets_until past (clock past) h (omega arith)) l.0 l.1 g shows
 
-pub read_at : (us : List PendingTicket) (w i : ℕ) (u : PendingTicket) → IsPendingAt us w i
+pub read_at : (us : List NotedCall) (w i : ℕ) (u : NotedCall) → IsNotedOf us w i
     → u ≡ get_or us i u → slice_get us i ≡ Some u
-read_at us w i u k e = k.at ∙ ap (λ (v : PendingTicket). Some v)
-    (sym (get_or_from_slice_get us i k.ticket u k.at) ∙ sym e)
+read_at us w i u k e = k.at ∙ ap (λ (v : NotedCall). Some v)
+    (sym (get_or_from_slice_get us i k.call u k.at) ∙ sym e)
 
 module _ (past : List Event) (x : Event) (r : Reply) (top : ℕ) (holes : List ℕ)
-    (us rest : List PendingTicket) (i : ℕ) (u : PendingTicket) (e : x.action ≡ Respond r)
-    (k : IsPendingAt us x.worker i) (read : u ≡ get_or us i u) (is : rest ≡ remove us i)
+    (us rest : List NotedCall) (i : ℕ) (u : NotedCall) (e : x.action ≡ Respond r)
+    (k : IsNotedOf us x.worker i) (read : u ≡ get_or us i u) (is : rest ≡ remove us i)
     (history : IsHistoryOf Sequencer (x ∷ past)) (w : Watching past top holes us) where
   at : slice_get us i ≡ Some u
   at = read_at us x.worker i u k read
@@ -94,7 +95,7 @@ taken_is top later holes more room noted n m a b e is h =
     subst (IsTaken top later holes more room noted m) is
     (subst (λ k. IsTaken top later holes more room noted k a) e h)
 
-pub pairs_are : (hs more : List ℕ) (us rest : List PendingTicket) (a b : Bool) → hs ≡ more
+pub pairs_are : (hs more : List ℕ) (us rest : List NotedCall) (a b : Bool) → hs ≡ more
     → us ≡ rest → a ≡ b → IsPaired hs us a → IsPaired more rest b
 pairs_are hs more us rest a b e f is h = subst (IsPaired more rest) is
     (subst (λ vs. IsPaired more vs a) f (subst (λ gs. IsPaired gs us a) e h))

@@ -11,10 +11,11 @@ use Rattle.calls_core.specs.declared.history.Event.{Event}
 use Rattle.calls_core.specs.declared.history.Call.{Call}
 use Rattle.calls_core.specs.Histories.{completion, invoked_by, pending_of, pending_calls}
 use Rattle.calls_core.specs.Histories.{pending_after, completed_calls, ended_call, IsHistoryOf}
-use Rattle.calls_tickets.specs.declared.pending.PendingTicket.{PendingTicket}
+use Rattle.calls_core.specs.declared.pending.NotedCall.{NotedCall}
+use Rattle.calls_core.specs.Pending.{noted_calls, IsNotedOf}
 use Rattle.calls_tickets.specs.declared.recorded.RecordedTickets.{RecordedTickets}
 use Rattle.calls_tickets.specs.Faults.{ticket_number}
-use Rattle.calls_tickets.specs.kept.Watching.{calls_in, IsPaired, IsPendingAt, IsTaken, Watching}
+use Rattle.calls_tickets.specs.kept.Watching.{IsPaired, IsTaken, Watching}
 use Rattle.calls_tickets.specs.kept.Recording.{AreGathered, Records, IsFaulty, IsFollowed}
 use Rattle.calls_tickets.proofs.Stepping.{invoked, left}
 use Rattle.calls_tickets.proofs.Answering.{read_at, call_ended, goes_on, lacks, cannot}
@@ -32,7 +33,7 @@ records_invoked past x k op old new e done top holes is history r = record {
   gathered = record {
     done_are = ap reverse done ∙ r.gathered.done_are ∙ ap (λ a.
         ended_call x a (pending_of x.worker (pending_calls past)) ++ completed_calls past) (sym e);
-    pending_are = ap calls_in is ∙ map-append (λ (u : PendingTicket). u.call) old.pending.items
+    pending_are = ap noted_calls is ∙ map-append (λ (u : NotedCall). u.call) old.pending.items
         (record { call = invoked_by x k op; noted = old.top } ∷ [])
         ∙ ap (λ os. os ++ invoked_by x k op ∷ []) r.gathered.pending_are ∙ ap (λ a.
         pending_after x a (pending_calls past)) (sym e);
@@ -44,8 +45,8 @@ records_invoked past x k op old new e done top holes is history r = record {
 }
 
 module _ (past : List Event) (x : Event) (r : Reply) (old new : RecordedTickets)
-    (rest : List PendingTicket) (i : ℕ) (u : PendingTicket) (e : x.action ≡ Respond r)
-    (k : IsPendingAt old.pending.items x.worker i) (read : u ≡ get_or old.pending.items i u)
+    (rest : List NotedCall) (i : ℕ) (u : NotedCall) (e : x.action ≡ Respond r)
+    (k : IsNotedOf old.pending.items x.worker i) (read : u ≡ get_or old.pending.items i u)
     (is : rest ≡ remove old.pending.items i) (history : IsHistoryOf Sequencer (x ∷ past))
     (o : Records past old) (done : new.done.items ≡ old.done.items ++ completion x.at r u.call ∷ [])
     (same : new.pending.items ≡ rest) where
@@ -55,7 +56,7 @@ module _ (past : List Event) (x : Event) (r : Reply) (old new : RecordedTickets)
         (λ cs. completion x.at r u.call ∷ cs) o.gathered.done_are
         ∙ sym (call_ended past x r old.top old.holes.items old.pending.items rest i u e k read is
         history o.watching);
-    pending_are = ap calls_in same ∙ sym (left past x r old.top old.holes.items old.pending.items
+    pending_are = ap noted_calls same ∙ sym (left past x r old.top old.holes.items old.pending.items
         rest i u e k (read_at old.pending.items x.worker i u k read) is history o.watching.follows);
   }
 

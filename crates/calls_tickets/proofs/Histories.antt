@@ -23,24 +23,6 @@ pub tickets_until : (past : List Event) (t : ℕ) → IsHistoryOf Sequencer past
 tickets_until past t h le = tickets_of (completed_calls past) (pending_calls past) (clock past) t le
     (are_calls_of Sequencer past h)
 
--- THE FIRST i EVENTS
-
-pub past_next : (events : List Event) (i : ℕ) (d : Event) → i < length events
-    → past_at (i + 1) events ≡ get_or events i d ∷ past_at i events
-past_next events i d lt = ap reverse (take_more events i d lt) ∙ reverse-append (take i events)
-    (get_or events i d ∷ [])
-
-pub past_all : (events : List Event) (i : ℕ) → length events ≤ i → past_at i events ≡ reverse events
-past_all events i le = ap reverse (take_all i events le)
-
-pub history_next : (events : List Event) (i : ℕ) (d : Event) → i < length events
-    → IsHistoryOf Sequencer (reverse events) → IsHistoryOf Sequencer
-    (get_or events i d ∷ past_at i events)
-history_next events i d lt h =
-    subst (IsHistoryOf Sequencer) (past_next events i d lt)
-    (history_of_earlier Sequencer (reverse (drop (i + 1) events)) (past_at (i + 1) events)
-    (subst (IsHistoryOf Sequencer) (past_split (i + 1) events) h))
-
 -- NO MORE CALLS THAN POSITIONS
 
 pub without_long : (w : ℕ) (os : List PendingCall) (o : PendingCall) → pending_of w os ≡ Some o

@@ -15,11 +15,12 @@ use Rattle.calls_core.proofs.Lists.{each_weaker, each_both, all_from_each}
 use Rattle.calls_core.proofs.Counting.{one, one_yes, one_no, one_less, count_cons, count_less}
 use Rattle.calls_core.proofs.Counting.{count_none}
 use Rattle.calls_core.proofs.Positions.{are_calls_of}
+use Rattle.calls_core.specs.declared.pending.NotedCall.{NotedCall}
+use Rattle.calls_core.specs.Pending.{noted_calls}
 use Rattle.calls_tickets.specs.declared.fault.Fault.{Fault}
 use Rattle.calls_tickets.specs.declared.fault.Fault.TheVariants.{Twice, Turned, Drawn}
-use Rattle.calls_tickets.specs.declared.pending.PendingTicket.{PendingTicket}
 use Rattle.calls_tickets.specs.Faults.{number, FromTwice, FromDrawn, Shows}
-use Rattle.calls_tickets.specs.kept.Watching.{calls_in, IsTop, Paired, Unpaired, Following}
+use Rattle.calls_tickets.specs.kept.Watching.{IsTop, Paired, Unpaired, Following}
 use Rattle.calls_tickets.proofs.Wholes.{decided}
 use Rattle.calls_tickets.proofs.Histories.{tickets_until}
 use Rattle.calls_tickets.proofs.Numbering.{each_contains, contains_first, contains_later, count_two}
@@ -48,24 +49,24 @@ count_map f p (x ∷ xs) = omega (
   count_map f p xs,
 )
 
-abbrev invoked_to : ℕ → List PendingTicket → ℕ
-invoked_to n us = count_by (λ (u : PendingTicket). nat_le u.call.first n) us
+abbrev invoked_to : ℕ → List NotedCall → ℕ
+invoked_to n us = count_by (λ (u : NotedCall). nat_le u.call.first n) us
 
-abbrev noted_to : ℕ → List PendingTicket → ℕ
-noted_to n us = count_by (λ (u : PendingTicket). nat_le u.noted n) us
+abbrev noted_to : ℕ → List NotedCall → ℕ
+noted_to n us = count_by (λ (u : NotedCall). nat_le u.noted n) us
 
 abbrev holes_to : ℕ → List ℕ → ℕ
 holes_to n holes = count_by (λ (h : ℕ). nat_le h n) holes
 
-invoked_calls : (n : ℕ) (us : List PendingTicket) → count_by (λ (o : PendingCall). nat_le o.first n)
-    (calls_in us) ≡ invoked_to n us
-invoked_calls n us = count_map (λ (u : PendingTicket). u.call)
+invoked_calls : (n : ℕ) (us : List NotedCall) → count_by (λ (o : PendingCall). nat_le o.first n)
+    (noted_calls us) ≡ invoked_to n us
+invoked_calls n us = count_map (λ (u : NotedCall). u.call)
     (λ (o : PendingCall). nat_le o.first n) us
 
 -- WITH A PENDING TICKET FOR EACH HOLE NO FAULT IS SHOWN
 
 module _ (past : List Event) (history : IsHistoryOf Sequencer past) (top : ℕ) (holes : List ℕ)
-    (us : List PendingTicket) (f : Following past top holes us) where
+    (us : List NotedCall) (f : Following past top holes us) where
   done : List Call
   done = completed_calls past
 
@@ -73,7 +74,7 @@ module _ (past : List Event) (history : IsHistoryOf Sequencer past) (top : ℕ) 
   calls = are_calls_of Sequencer past history
 
   paired_few : (c : Call) → Contains (completed_calls past) c
-      → (hs : List ℕ) (vs : List PendingTicket) → Each (λ (u : PendingTicket). IsTop
+      → (hs : List ℕ) (vs : List NotedCall) → Each (λ (u : NotedCall). IsTop
       (completed_calls past) u.call.first u.noted) vs → Paired hs vs
       → holes_to (number c) hs ≤ invoked_to c.last vs
   paired_few c known [] vs t p = omega arith
@@ -82,7 +83,7 @@ module _ (past : List Event) (history : IsHistoryOf Sequencer past) (top : ℕ) 
       omega (
         arith,
         count_cons (λ (g : ℕ). nat_le g (number c)) h hs,
-        count_cons (λ (v : PendingTicket). nat_le v.call.first c.last) u vs,
+        count_cons (λ (v : NotedCall). nat_le v.call.first c.last) u vs,
         paired_few c known hs vs t.1 p.1,
         one_less (nat_le h (number c)) (nat_le u.call.first c.last) (λ e.
             le-leb u.call.first c.last (invoked (leb-true h (number c) e))),
@@ -177,30 +178,30 @@ module _ (past : List Event) (history : IsHistoryOf Sequencer past) (top : ℕ) 
         | inr le ↦ inr (le, none)
       ]
 
-  noted_rise : EachPair (λ (u v : PendingTicket). u.noted ≤ v.noted) us
-  noted_rise = rise us f.noted (each_pair_unmap (λ (u : PendingTicket). u.call) Earlier us
+  noted_rise : EachPair (λ (u v : NotedCall). u.noted ≤ v.noted) us
+  noted_rise = rise us f.noted (each_pair_unmap (λ (u : NotedCall). u.call) Earlier us
       (subst (EachPair Earlier) f.pending_is calls.rises))
     where
-      rise : (vs : List PendingTicket) → Each (λ (u : PendingTicket). IsTop (completed_calls past)
-          u.call.first u.noted) vs → EachPair (λ (u v : PendingTicket). u.call.first < v.call.first)
-          vs → EachPair (λ (u v : PendingTicket). u.noted ≤ v.noted) vs
+      rise : (vs : List NotedCall) → Each (λ (u : NotedCall). IsTop (completed_calls past)
+          u.call.first u.noted) vs → EachPair (λ (u v : NotedCall). u.call.first < v.call.first)
+          vs → EachPair (λ (u v : NotedCall). u.noted ≤ v.noted) vs
       rise [] t r = tt
       rise (u ∷ vs) t r = (
-        each_both (λ (v : PendingTicket). IsTop (completed_calls past) v.call.first v.noted)
-            (λ (v : PendingTicket). u.call.first < v.call.first) (λ (v : PendingTicket). u.noted
+        each_both (λ (v : NotedCall). IsTop (completed_calls past) v.call.first v.noted)
+            (λ (v : NotedCall). u.call.first < v.call.first) (λ (v : NotedCall). u.noted
             ≤ v.noted)
-            (λ (v : PendingTicket) a lt. tops_rise (completed_calls past) u.call.first v.call.first
+            (λ (v : NotedCall) a lt. tops_rise (completed_calls past) u.call.first v.call.first
             u.noted v.noted t.0 a (omega arith)) vs t.1 r.0,
         rise vs t.1 r.1,
       )
 
-  record Lack (hs : List ℕ) (vs : List PendingTicket) : Type 0 where
+  record Lack (hs : List ℕ) (vs : List NotedCall) : Type 0 where
     hole : ℕ
     known : Contains hs hole
     few : noted_to hole vs < holes_to hole hs
 
-  lack : (hs : List ℕ) (vs : List PendingTicket) → EachPair (λ (g h : ℕ). g < h) hs
-      → EachPair (λ (u v : PendingTicket). u.noted ≤ v.noted) vs → Unpaired hs vs → Lack hs vs
+  lack : (hs : List ℕ) (vs : List NotedCall) → EachPair (λ (g h : ℕ). g < h) hs
+      → EachPair (λ (u v : NotedCall). u.noted ≤ v.noted) vs → Unpaired hs vs → Lack hs vs
   lack [] vs rises noted u = absurd u
   lack (h ∷ hs) [] rises noted u = record {
     hole = h;
@@ -217,17 +218,17 @@ module _ (past : List Event) (history : IsHistoryOf Sequencer past) (top : ℕ) 
     hole = h;
     known = contains_first h hs;
     few =
-        (let none : noted_to h vs ≡ 0 = count_none (λ (w : PendingTicket). nat_le w.noted h) vs
-        (all_from_each (λ (w : PendingTicket). nat_le w.noted h ≡ false) vs
-        (each_weaker (λ (w : PendingTicket). v.noted ≤ w.noted)
-        (λ (w : PendingTicket). nat_le w.noted h ≡ false)
-        (λ (w : PendingTicket) le. lt-leb w.noted h (omega arith)) vs noted.0)) in
+        (let none : noted_to h vs ≡ 0 = count_none (λ (w : NotedCall). nat_le w.noted h) vs
+        (all_from_each (λ (w : NotedCall). nat_le w.noted h ≡ false) vs
+        (each_weaker (λ (w : NotedCall). v.noted ≤ w.noted)
+        (λ (w : NotedCall). nat_le w.noted h ≡ false)
+        (λ (w : NotedCall) le. lt-leb w.noted h (omega arith)) vs noted.0)) in
         omega (
           arith,
           none,
           count_cons (λ (g : ℕ). nat_le g h) h hs,
           one_yes (nat_le h h) (le-leb h h (omega arith)),
-          count_cons (λ (w : PendingTicket). nat_le w.noted h) v vs,
+          count_cons (λ (w : NotedCall). nat_le w.noted h) v vs,
           one_no (nat_le v.noted h) (lt-leb v.noted h lt),
         ));
   }
@@ -242,7 +243,7 @@ module _ (past : List Event) (history : IsHistoryOf Sequencer past) (top : ℕ) 
           r.few,
           count_cons (λ (g : ℕ). nat_le g r.hole) h hs,
           one_yes (nat_le h r.hole) (le-leb h r.hole (omega arith)),
-          count_cons (λ (w : PendingTicket). nat_le w.noted r.hole) v vs,
+          count_cons (λ (w : NotedCall). nat_le w.noted r.hole) v vs,
           one_most (nat_le v.noted r.hole),
         );
       })
@@ -258,13 +259,13 @@ module _ (past : List Event) (history : IsHistoryOf Sequencer past) (top : ℕ) 
       let lt : number c < top = each_contains (λ (d : Call). number d < top) (completed_calls past)
       c f.holes_are.below e.known in
       let invoked : invoked_to c.last us ≤ noted_to h us =
-      count_less (λ (u : PendingTicket). nat_le u.call.first c.last)
-      (λ (u : PendingTicket). nat_le u.noted h) us
-      (all_from_each (λ (u : PendingTicket). nat_le u.call.first c.last ≡ true
+      count_less (λ (u : NotedCall). nat_le u.call.first c.last)
+      (λ (u : NotedCall). nat_le u.noted h) us
+      (all_from_each (λ (u : NotedCall). nat_le u.call.first c.last ≡ true
       → nat_le u.noted h ≡ true) us
-      (each_weaker (λ (u : PendingTicket). IsTop (completed_calls past) u.call.first u.noted)
-      (λ (u : PendingTicket). nat_le u.call.first c.last ≡ true → nat_le u.noted h ≡ true)
-      (λ (u : PendingTicket) t is. le-leb u.noted h (low u (leb-true u.call.first c.last is)
+      (each_weaker (λ (u : NotedCall). IsTop (completed_calls past) u.call.first u.noted)
+      (λ (u : NotedCall). nat_le u.call.first c.last ≡ true → nat_le u.noted h ≡ true)
+      (λ (u : NotedCall) t is. le-leb u.noted h (low u (leb-true u.call.first c.last is)
       t.reached)) us f.noted)) in
       let more : holes_to h holes ≤ holes_to (number c) holes =
       count_less (λ (g : ℕ). nat_le g h) (λ (g : ℕ). nat_le g (number c)) holes
@@ -287,7 +288,7 @@ module _ (past : List Event) (history : IsHistoryOf Sequencer past) (top : ℕ) 
         },
       )
     where
-      low : (u : PendingTicket) → u.call.first ≤ e.call.last → (u.noted ≡ 0)
+      low : (u : NotedCall) → u.call.first ≤ e.call.last → (u.noted ≡ 0)
           ⊎ ((d : Call) × Contains (completed_calls past) d × (d.last < u.call.first)
           × (u.noted ≡ number d + 1)) → u.noted ≤ h
       low u le (inl is) = omega arith

@@ -3,9 +3,10 @@ use Rattle.std.proofs.Common.{◌≡◌, ℕ, zero, suc, ◌+◌, ◌-◌, ◌<�
 use Rattle.std.proofs.Common.{true, false, nat_le, List, [], ◌∷◌, ◌++◌, length, Some, slice_get}
 use Rattle.std.proofs.Common.{refl, ap, sym, ◌∙◌, arith, subst, count_by, length-append}
 use Rattle.std.proofs.Common.{append_assoc}
-use Rattle.std.specs.List.{Contains, remove}
+use Rattle.std.specs.List.{Contains, remove, range_with_len as places}
 use Rattle.std.proofs.lemmas.Bool.{cases_lt, le-leb, lt-leb, eq-eqb, ne_eqb}
 use Rattle.std.proofs.lemmas.List.Elements.{All-contains, Contains-append_right}
+use Rattle.std.proofs.lemmas.List.FromFn.{length-range_with_len}
 use Rattle.calls_core.specs.declared.history.TheConstants.{WORKERS}
 use Rattle.calls_core.specs.declared.history.Call.{Call}
 use Rattle.calls_core.specs.Lists.{Each, EachPair}
@@ -13,7 +14,7 @@ use Rattle.calls_core.proofs.Lists.{each_weaker, each_append, each_pair_append, 
 use Rattle.calls_core.proofs.Counting.{one, one_yes, one_no, count_cons, count_append, count_none}
 use Rattle.calls_core.proofs.Counting.{split_at, in_either}
 use Rattle.calls_tickets.specs.Faults.{number}
-use Rattle.calls_tickets.specs.kept.Watching.{places, IsTop, AreHoles}
+use Rattle.calls_tickets.specs.kept.Watching.{IsTop, AreHoles}
 
 -- LISTS
 
@@ -210,10 +211,6 @@ none_is f k xs h =
 
 -- RANGES OF NUMBERS
 
-pub places_long : (p n : ℕ) → length (places p n) ≡ n
-places_long p zero = refl
-places_long p (suc n) = omega (arith, places_long (p + 1) n)
-
 pub places_in : (p n : ℕ) → Each (λ h. (p ≤ h) × (h < p + n)) (places p n)
 places_in p zero = tt
 places_in p (suc n) = (
@@ -256,11 +253,6 @@ places_once p (suc n) k le lt = elim (cases_lt p k) [
     places_out (p + 1) n k (inl (omega arith)),
   )
 ]
-
-pub places_more : (p n : ℕ) → places p (suc n) ≡ places p n ++ (p + n) ∷ []
-places_more p zero = ap (λ k. k ∷ []) (let e : p ≡ p + 0 = omega arith in e)
-places_more p (suc n) = ap (λ ps. p ∷ ps) (places_more (p + 1) n ∙ ap (λ k.
-    places (p + 1) n ++ k ∷ []) (let e : p + 1 + n ≡ p + suc n = omega arith in e))
 
 -- ONE MORE NUMBER
 
@@ -352,7 +344,7 @@ holes_raised done top holes c n a e le =
                   )
                 ]
           ]);
-      total = omega (arith, a.total, length-append holes new, places_long top (n - top));
+      total = omega (arith, a.total, length-append holes new, length-range_with_len top (n - top));
       below = (
         omega arith,
         each_weaker (λ (d : Call). number d < top)
@@ -390,18 +382,3 @@ tops_rise done p q m n a b le = go a.reached
     go (inr (d, known, lt, e)) =
         (let less : number d < n = each_contains (λ (d : Call). d.last < q
         → number d < n) done d b.above known (omega arith) in omega arith)
-
-pub raised_more : (p i : ℕ) (old now : List ℕ) → p ≤ i → now ≡ old ++ places p (i - p)
-    → now ++ i ∷ [] ≡ old ++ places p (i + 1 - p)
-raised_more p i old now le is =
-    let last : p + (i - p) ≡ i = omega arith in
-    let next : suc (i - p) ≡ i + 1 - p = omega arith in
-    ap (λ ps. ps ++ i ∷ []) is ∙ append_assoc old (places p (i - p)) (i ∷ [])
-    ∙ ap (λ ps. old ++ ps) (ap (λ k. places p (i - p) ++ k ∷ []) (sym last) ∙ sym
-    (places_more p (i - p)) ∙ ap (places p) next)
-
-pub raised_full : (p i q : ℕ) (old now : List ℕ) → p ≤ i → i < q → now ≡ old ++ places p (i - p)
-    → length now ≡ WORKERS → (p < q → length old + (q - p) ≤ WORKERS) → ⊥
-raised_full p i q old now le lt is full room =
-    let few : length old + (q - p) ≤ WORKERS = room (omega arith) in
-    omega (arith, few, ap length is, length-append old (places p (i - p)), places_long p (i - p))

@@ -1,20 +1,21 @@
 -- The whole decision, by the recorded tickets.
 use Rattle.std.proofs.Common.{◌≡◌, ℕ, ◌+◌, ◌<◌, ◌≤◌, List, ◌∷◌, length, reverse, get_or, sym, arith}
-use Rattle.std.proofs.Common.{subst, below_more}
+use Rattle.std.proofs.Common.{subst}
 use Rattle.calls_core.specs.declared.history.Kind.TheVariants.{Sequencer}
 use Rattle.calls_core.specs.declared.history.Event.{Event}
 use Rattle.calls_core.specs.declared.history.Call.{Call}
 use Rattle.calls_core.specs.Histories.{clock, pending_calls, completed_calls, IsHistoryOf}
 use Rattle.calls_core.specs.Beginnings.{past_at}
 use Rattle.calls_core.specs.Outcomes.{IsOrderOf, HasOrderOf, IsFirstFault}
+use Rattle.calls_core.specs.Pending.{noted_calls}
+use Rattle.calls_core.proofs.Beginnings.{past_next, past_all, history_next, orders_before}
 use Rattle.calls_tickets.specs.declared.fault.Fault.{Fault}
 use Rattle.calls_tickets.specs.declared.table.Decision.{Decision}
 use Rattle.calls_tickets.specs.declared.recorded.RecordedTickets.{RecordedTickets}
 use Rattle.calls_tickets.specs.Faults.{Shows}
 use Rattle.calls_tickets.specs.kept.Tables.{AreTickets, IsDecided}
-use Rattle.calls_tickets.specs.kept.Watching.{calls_in}
 use Rattle.calls_tickets.specs.kept.Recording.{AreGathered, Records, IsFaulty}
-use Rattle.calls_tickets.proofs.Histories.{tickets_until, past_next, past_all, history_next}
+use Rattle.calls_tickets.proofs.Histories.{tickets_until}
 use Rattle.calls_tickets.proofs.Refuting.{no_order}
 use Rattle.calls_tickets.proofs.Answering.{watching_order, shown_no_order}
 
@@ -22,15 +23,15 @@ use Rattle.calls_tickets.proofs.Answering.{watching_order, shown_no_order}
 pub tickets_gathered : (past : List Event) (r : RecordedTickets) (t : ℕ)
     → IsHistoryOf Sequencer past
     → clock past ≤ t + 1 → AreGathered past r → AreTickets (reverse r.done.items)
-    (calls_in r.pending.items) t
+    (noted_calls r.pending.items) t
 tickets_gathered past r t h le g =
-    subst (λ ds. AreTickets ds (calls_in r.pending.items) t) (sym g.done_are)
+    subst (λ ds. AreTickets ds (noted_calls r.pending.items) t) (sym g.done_are)
     (subst (λ os. AreTickets (completed_calls past) os t) (sym g.pending_are)
     (tickets_until past t h le))
 
 pub decided_of : (past : List Event) (r : RecordedTickets) (t : ℕ) (d e : Decision)
     → AreGathered past r
-    → d ≡ e → IsDecided (reverse r.done.items) (calls_in r.pending.items) t d
+    → d ≡ e → IsDecided (reverse r.done.items) (noted_calls r.pending.items) t d
     → IsDecided (completed_calls past) (pending_calls past) t e
 decided_of past r t d e g is h =
     subst (IsDecided (completed_calls past) (pending_calls past) t) is
@@ -55,7 +56,7 @@ module _ (events : List Event) (i : ℕ) (d : Event) (lt : i < length events)
   here = get_or events i d ∷ past_at i events
 
   pub history_here : IsHistoryOf Sequencer (get_or events i d ∷ past_at i events)
-  history_here = history_next events i d lt history
+  history_here = history_next Sequencer i events d lt history
 
   pub has_order : (r : RecordedTickets) → Records (past_at i events) r
       → HasOrderOf Sequencer (past_at i events)
@@ -63,25 +64,17 @@ module _ (events : List Event) (i : ℕ) (d : Event) (lt : i < length events)
       history_here.2 k.watching
 
   pub first_fault : (old : RecordedTickets) (g : Fault) → Records (past_at i events) old
-      → ((j : ℕ) → j < i → HasOrderOf Sequencer (past_at j events))
       → Shows (get_or events i d ∷ past_at i events) g → IsFirstFault (λ past.
       Shows past g) Sequencer events i
-  first_fault old g k before shows = record {
+  first_fault old g k shows = record {
     within = lt;
     shows = subst (λ past. Shows past g) (sym (past_next events i d lt)) shows;
-    before = λ j le. below_more (λ k. HasOrderOf Sequencer (past_at k events)) i before
-        (has_order old k) j (omega arith);
+    before = λ j le. orders_before Sequencer i j events le history_here.2 (has_order old k);
   }
 
-  pub records_next : (old new : RecordedTickets) → Records (past_at i events) old
-      → ((j : ℕ) → j < i → HasOrderOf Sequencer (past_at j events))
-      → Records (get_or events i d ∷ past_at i events) new
-      → Records (past_at (i + 1) events) new × ((j : ℕ) → j < i + 1
-      → HasOrderOf Sequencer (past_at j events))
-  records_next old new k before next = (
-    subst (λ p. Records p new) (sym (past_next events i d lt)) next,
-    below_more (λ k. HasOrderOf Sequencer (past_at k events)) i before (has_order old k),
-  )
+  pub records_next : (new : RecordedTickets) → Records (get_or events i d ∷ past_at i events) new
+      → Records (past_at (i + 1) events) new
+  records_next new next = subst (λ p. Records p new) (sym (past_next events i d lt)) next
 
 pub records_all : (events : List Event) (i : ℕ) (r : RecordedTickets) → length events ≤ i
     → Records (past_at i events) r → Records (reverse events) r

@@ -20,13 +20,14 @@ use Rattle.calls_core.specs.Histories.{pending_calls, pending_after, completed_c
 use Rattle.calls_core.specs.Histories.{IsHistoryOf}
 use Rattle.calls_core.specs.Calls.{IsCallOf, Early}
 use Rattle.calls_core.proofs.Lists.{each_weaker, each_both, each_append}
-use Rattle.calls_core.proofs.Positions.{are_calls_of}
+use Rattle.calls_core.proofs.Positions.{are_calls_of, early_calls}
+use Rattle.calls_core.specs.declared.pending.NotedCall.{NotedCall}
+use Rattle.calls_core.specs.Pending.{noted_calls, IsNotedOf}
 use Rattle.calls_tickets.specs.declared.fault.Fault.{Fault}
 use Rattle.calls_tickets.specs.declared.fault.Fault.TheVariants.{Twice, Turned, Drawn}
-use Rattle.calls_tickets.specs.declared.pending.PendingTicket.{PendingTicket}
 use Rattle.calls_tickets.specs.Faults.{ticket_number, number, FromTurned, ShowsIn, Shows}
-use Rattle.calls_tickets.specs.kept.Watching.{calls_in, IsTop, AreHoles, Paired, Following}
-use Rattle.calls_tickets.specs.kept.Watching.{Watching, IsPendingAt, IsHoleAt, NoHole, Fills}
+use Rattle.calls_tickets.specs.kept.Watching.{IsTop, AreHoles, Paired, Following}
+use Rattle.calls_tickets.specs.kept.Watching.{Watching, IsHoleAt, NoHole, Fills}
 use Rattle.calls_tickets.specs.kept.Watching.{Raises, CannotTake, IsTaken}
 use Rattle.calls_tickets.proofs.Histories.{calls_few, IsResponse, response}
 use Rattle.calls_tickets.proofs.Numbering.{each_contains, contains_first, contains_later, each_at}
@@ -67,42 +68,36 @@ top_kept done c p n le t = record {
 
 -- AN INVOCATION
 
-pub paired_more : (hs : List ℕ) (us vs : List PendingTicket) → Paired hs us → Paired hs (us ++ vs)
+pub paired_more : (hs : List ℕ) (us vs : List NotedCall) → Paired hs us → Paired hs (us ++ vs)
 paired_more [] us vs p = tt
 paired_more (h ∷ hs) [] vs p = absurd p
 paired_more (h ∷ hs) (u ∷ us) vs p = (p.0, paired_more hs us vs p.1)
 
-early_calls : (past : List Event) → IsHistoryOf Sequencer past
-    → Each (λ (d : Call). d.last < clock past) (completed_calls past)
-early_calls past h = each_weaker (IsCallOf Sequencer (clock past))
-    (λ (d : Call). d.last < clock past) (λ (d : Call) k. k.early) (completed_calls past)
-    (are_calls_of Sequencer past h).completed
-
 pub invoked : (past : List Event) (x : Event) (k : ℕ) (op : Op) (top : ℕ) (holes : List ℕ)
-    (us later : List PendingTicket) → x.action ≡ Invoke k op
+    (us later : List NotedCall) → x.action ≡ Invoke k op
     → later ≡ us ++ record { call = invoked_by x k op; noted = top } ∷ []
     → IsHistoryOf Sequencer (x ∷ past) → Watching past top holes us
     → Watching (x ∷ past) top holes later
 invoked past x k op top holes us later e is history w =
     let f = w.follows in
-    let new : PendingTicket = record { call = invoked_by x k op; noted = top } in
+    let new : NotedCall = record { call = invoked_by x k op; noted = top } in
     let same : completed_calls past ≡ completed_calls (x ∷ past) =
     ap (λ a. ended_call x a (pending_of x.worker (pending_calls past)) ++ completed_calls past)
     (sym e) in
     let le : clock past ≤ x.at = history.0 in
-    let early = early_calls past history.2 in
+    let early = early_calls Sequencer past history.2 in
     record {
       follows = record {
         pending_is = ap (λ a. pending_after x a (pending_calls past)) e ∙ ap (λ os.
             os ++ invoked_by x k op ∷ []) f.pending_is ∙ sym
-            (map-append (λ (u : PendingTicket). u.call) us (new ∷ [])) ∙ ap calls_in (sym is);
+            (map-append (λ (u : NotedCall). u.call) us (new ∷ [])) ∙ ap noted_calls (sym is);
         holes_are = subst (λ ds. AreHoles ds top holes) same f.holes_are;
         top_is = subst (λ ds. IsTop ds (x.at + 1) top) same (top_later (completed_calls past)
             (clock past) (x.at + 1) top early (omega arith) f.top_is);
-        noted = subst (λ ds. Each (λ (u : PendingTicket). IsTop ds u.call.first u.noted) later) same
-            (subst (Each (λ (u : PendingTicket). IsTop (completed_calls past) u.call.first u.noted))
+        noted = subst (λ ds. Each (λ (u : NotedCall). IsTop ds u.call.first u.noted) later) same
+            (subst (Each (λ (u : NotedCall). IsTop (completed_calls past) u.call.first u.noted))
             (sym is)
-            (each_append (λ (u : PendingTicket). IsTop (completed_calls past) u.call.first u.noted)
+            (each_append (λ (u : NotedCall). IsTop (completed_calls past) u.call.first u.noted)
             us (new ∷ []) f.noted (
               top_later (completed_calls past) (clock past) x.at top early
                   le f.top_is,
@@ -121,8 +116,8 @@ contains_at (h ∷ hs) (suc j) n at = contains_later h hs n (contains_at hs j n 
 -- A RESPONSE
 
 module _ (past : List Event) (x : Event) (r : Reply) (top : ℕ) (holes : List ℕ)
-    (us rest : List PendingTicket) (i : ℕ) (u : PendingTicket) (e : x.action ≡ Respond r)
-    (k : IsPendingAt us x.worker i) (read : slice_get us i ≡ Some u) (is : rest ≡ remove us i)
+    (us rest : List NotedCall) (i : ℕ) (u : NotedCall) (e : x.action ≡ Respond r)
+    (k : IsNotedOf us x.worker i) (read : slice_get us i ≡ Some u) (is : rest ≡ remove us i)
     (history : IsHistoryOf Sequencer (x ∷ past)) (f : Following past top holes us) where
   abbrev call : Call
   call = completion x.at r u.call
@@ -130,31 +125,31 @@ module _ (past : List Event) (x : Event) (r : Reply) (top : ℕ) (holes : List �
   abbrev old : List Call
   old = completed_calls past
 
-  own : k.ticket ≡ u
-  own = (let both : Some k.ticket ≡ Some u = sym k.at ∙ read in cc)
+  own : k.call ≡ u
+  own = (let both : Some k.call ≡ Some u = sym k.at ∙ read in cc)
 
   is_response : IsResponse x r past u.call
   is_response = response x r past u.call e (ap (pending_of x.worker) f.pending_is ∙ k.first ∙ ap
-      (λ (v : PendingTicket). Some v.call) own) history
+      (λ (v : NotedCall). Some v.call) own) history
 
   pub ended : completed_calls (x ∷ past) ≡ completion x.at r u.call ∷ completed_calls past
   ended = is_response.ended
 
-  pub left : pending_calls (x ∷ past) ≡ calls_in rest
-  left = is_response.left ∙ ap (without x.worker) f.pending_is ∙ k.others ∙ ap calls_in (sym is)
+  pub left : pending_calls (x ∷ past) ≡ noted_calls rest
+  left = is_response.left ∙ ap (without x.worker) f.pending_is ∙ k.others ∙ ap noted_calls (sym is)
 
   early : Each (λ (d : Call). d.last < clock past) (completed_calls past)
-  early = early_calls past history.2
+  early = early_calls Sequencer past history.2
 
-  invoked_early : Each (λ (v : PendingTicket). v.call.first < clock past) us
-  invoked_early = each_unmap (λ (v : PendingTicket). v.call) (Early (clock past)) us
+  invoked_early : Each (λ (v : NotedCall). v.call.first < clock past) us
+  invoked_early = each_unmap (λ (v : NotedCall). v.call) (Early (clock past)) us
       (subst (Each (Early (clock past))) f.pending_is (are_calls_of Sequencer past history.2).early)
 
   u_early : u.call.first < clock past
-  u_early = each_at (λ (v : PendingTicket). v.call.first < clock past) us i u read invoked_early
+  u_early = each_at (λ (v : NotedCall). v.call.first < clock past) us i u read invoked_early
 
   u_noted : IsTop (completed_calls past) u.call.first u.noted
-  u_noted = each_at (λ (v : PendingTicket). IsTop (completed_calls past) v.call.first v.noted) us i
+  u_noted = each_at (λ (v : NotedCall). IsTop (completed_calls past) v.call.first v.noted) us i
       u read f.noted
 
   last_early : (d : Call) → Contains (completed_calls past) d → d.last < clock past
@@ -221,16 +216,16 @@ module _ (past : List Event) (x : Event) (r : Reply) (top : ℕ) (holes : List �
           a.below;
       reached = reached;
     });
-    noted = subst (λ ds. Each (λ (v : PendingTicket). IsTop ds v.call.first v.noted) rest)
+    noted = subst (λ ds. Each (λ (v : NotedCall). IsTop ds v.call.first v.noted) rest)
         (sym ended)
-        (subst (Each (λ (v : PendingTicket). IsTop (completion x.at r u.call ∷ completed_calls past)
+        (subst (Each (λ (v : NotedCall). IsTop (completion x.at r u.call ∷ completed_calls past)
         v.call.first v.noted)) (sym is)
-        (each_remove (λ (v : PendingTicket). IsTop (completion x.at r u.call ∷ completed_calls past)
+        (each_remove (λ (v : NotedCall). IsTop (completion x.at r u.call ∷ completed_calls past)
         v.call.first v.noted) us i
-        (each_both (λ (v : PendingTicket). v.call.first < clock past) (λ (v : PendingTicket). IsTop
-        (completed_calls past) v.call.first v.noted) (λ (v : PendingTicket). IsTop
+        (each_both (λ (v : NotedCall). v.call.first < clock past) (λ (v : NotedCall). IsTop
+        (completed_calls past) v.call.first v.noted) (λ (v : NotedCall). IsTop
         (completion x.at r u.call ∷ completed_calls past) v.call.first v.noted)
-        (λ (v : PendingTicket) lt t. top_kept (completed_calls past) (completion x.at r u.call)
+        (λ (v : NotedCall) lt t. top_kept (completed_calls past) (completion x.at r u.call)
         v.call.first v.noted (omega (arith, is_response.later)) t) us invoked_early f.noted)));
     straight = λ a b t. straight_more low a b (subst (λ ds. FromTurned ds a b) ended t);
   }
@@ -277,7 +272,7 @@ module _ (past : List Event) (x : Event) (r : Reply) (top : ℕ) (holes : List �
         rest_long,
         calls_few past history.2,
         ap length f.pending_is,
-        length-map us (λ (v : PendingTicket). v.call),
+        length-map us (λ (v : NotedCall). v.call),
         is_response.later,
       )
 
@@ -310,7 +305,7 @@ module _ (past : List Event) (x : Event) (r : Reply) (top : ℕ) (holes : List �
   -- THE NUMBER IS IMPOSSIBLE
 
   shows_here : (g : Fault) → ShowsIn (completion x.at r u.call ∷ completed_calls past)
-      (calls_in rest) g → Shows (x ∷ past) g
+      (noted_calls rest) g → Shows (x ∷ past) g
   shows_here g s = subst (λ ds. ShowsIn ds (pending_calls (x ∷ past)) g) (sym ended)
       (subst (λ os. ShowsIn (completion x.at r u.call ∷ completed_calls past) os g) (sym left) s)
 
@@ -369,8 +364,8 @@ module _ (past : List Event) (x : Event) (r : Reply) (top : ℕ) (holes : List �
           omega (
             arith,
             all,
-            count_by-le-length (λ (o : PendingCall). nat_le o.first x.at) (calls_in rest),
-            length-map rest (λ (v : PendingTicket). v.call),
+            count_by-le-length (λ (o : PendingCall). nat_le o.first x.at) (noted_calls rest),
+            length-map rest (λ (v : NotedCall). v.call),
             f.holes_are.total,
           ));
     }),

@@ -1,9 +1,6 @@
 -- What a monitor represents, and its verdicts.
-use Rattle.std.specs.Prelude.{◌≡◌, ℕ, ◌<◌, List, ◌∷◌, Result, Ok, Err}
-use Rattle.calls_core.specs.declared.history.TheConstants.{WORKERS}
+use Rattle.std.specs.Prelude.{◌≡◌, ℕ, List, ◌∷◌, Result, Ok, Err}
 use Rattle.calls_core.specs.declared.history.Kind.TheVariants.{Sequencer}
-use Rattle.calls_core.specs.declared.history.Action.{Action}
-use Rattle.calls_core.specs.declared.history.Action.TheVariants.{Invoke, Respond}
 use Rattle.calls_core.specs.declared.history.Event.{Event}
 use Rattle.calls_core.specs.declared.history.Call.{Call}
 use Rattle.calls_core.specs.Histories.{completed_calls, IsHistoryOf}
@@ -17,11 +14,6 @@ use Rattle.calls_tickets.specs.kept.Watching.{Watching}
 -- the monitor represents the history so far
 abbrev pub Watches : List Event → Monitor → Type 0
 Watches past m = Watching past m.top m.holes.items m.pending.items
-
--- an invocation needs room for a pending call
-abbrev pub HasRoom : Action → ℕ → Type 0
-HasRoom (Invoke k op) n = n < WORKERS
-HasRoom (Respond r) n = Unit {0}
 
 -- the monitor represents this history, and it has a linearization
 pub record IsAccepted (past : List Event) (new : Monitor) : Type 0 where

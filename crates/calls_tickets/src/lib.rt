@@ -13,4 +13,3 @@ pub use deciding::{Outcome, decide};
 pub use fault::Fault;
 pub use laws::{a_fault_leaves_no_order, every_history_is_decided};
 pub use monitor::{Monitor, Refused};
-pub use pending::PendingTicket;

@@ -1,13 +1,15 @@
 //! A monitor of one sequencer: it judges a history event by event, in constant memory.
 ghost use Rattle.std.specs.Prelude.{◌≡◌, ◌+◌, ◌-◌, ◌<◌, ◌≤◌, ◌++◌, ◌∷◌, [], length};
+ghost use Rattle.std.specs.List.{range_with_len};
 ghost use Rattle.arrayvec.specs.ArrayVec.{array_vec_len};
 ghost use Rattle.calls_core.specs.Histories.{completion, invoked_by};
-ghost use Rattle.calls_tickets.specs.Monitors.{Watches, HasRoom, Judges};
-ghost use Rattle.calls_tickets.specs.kept.Watching.{places, IsTaken};
+ghost use Rattle.calls_core.specs.Pending.{HasRoom};
+ghost use Rattle.calls_tickets.specs.Monitors.{Watches, Judges};
+ghost use Rattle.calls_tickets.specs.kept.Watching.{IsTaken};
 
-use crate::pending::{PendingTicket, are_paired, hole_index, number, pending_index};
+use crate::pending::{are_paired, hole_index, number};
 use arrayvec::ArrayVec;
-use calls_core::{Action, Call, Event, PendingCall, Reply, WORKERS};
+use calls_core::{Action, Call, Event, NotedCall, PendingCall, WORKERS, find_noted, push_range};
 
 /// The state after the events so far, with at most `WORKERS` pending tickets.
 #[derive(Drop)]
@@ -17,8 +19,8 @@ pub struct Monitor {
     /// The numbers below `top` that no ticket returned, ascending. Pending tickets have to return
     /// them.
     pub holes: ArrayVec<usize, WORKERS>,
-    /// The pending tickets, in the order of their invocations.
-    pub pending: ArrayVec<PendingTicket, WORKERS>,
+    /// The pending tickets, in the order of their invocations, each with `top` at its invocation.
+    pub pending: ArrayVec<NotedCall, WORKERS>,
 }
 
 /// The events so far have no linearization.
@@ -26,21 +28,6 @@ pub struct Monitor {
 pub struct Refused {
     /// The call that the last event completes.
     pub call: Call,
-}
-
-/// Adds the numbers from `from` to below `upto`, as far as there is room.
-fn raise(holes: &mut ArrayVec<usize, WORKERS>, from: usize, upto: usize)
-    ensures { (from < upto → length holes.old.items + (upto - from) ≤ WORKERS) →
-        holes.new.items ≡ holes.old.items ++ places from (upto - from) }
-{
-    let mut i = from;
-    while i < upto {
-        if holes.is_full() {
-            return;
-        }
-        holes.push(i);
-        i += 1;
-    }
 }
 
 impl Monitor {
@@ -65,17 +52,12 @@ impl Monitor {
         match event.action {
             Action::Invoke(object, op) => {
                 let noted = self.top;
-                let call = PendingCall {
-                    worker: event.worker,
-                    object,
-                    op,
-                    first: event.at,
-                };
-                self.pending.push(PendingTicket { call, noted });
+                let call = PendingCall::new(event, object, op);
+                self.pending.push(NotedCall { call, noted });
                 Ok(())
             }
             Action::Respond(reply) => {
-                let Some(i) = pending_index(self.pending.as_slice(), event.worker) else {
+                let Some(i) = find_noted(self.pending.as_slice(), event.worker) else {
                     return Ok(());
                 };
                 let ticket = self.pending.remove(i);
@@ -105,7 +87,7 @@ impl Monitor {
             if held > room || n - self.top > room - held {
                 return false;
             }
-            raise(&mut self.holes, self.top, n);
+            push_range(&mut self.holes, self.top, n);
             self.top = n.saturating_add(1);
             return true;
         }

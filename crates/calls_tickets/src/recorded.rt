@@ -1,13 +1,15 @@
 //! The tickets of a history, collected event by event.
 ghost use Rattle.std.specs.Prelude.{◌≡◌, ◌+◌, ◌-◌, ◌<◌, ◌≤◌, ◌++◌, ◌∷◌, [], length, reverse, IfOk};
 ghost use Rattle.std.specs.Prelude.{OnOk};
+ghost use Rattle.std.specs.List.{range_with_len};
+ghost use Rattle.calls_core.specs.Pending.{noted_calls};
 ghost use Rattle.calls_tickets.specs.kept.Tables.{AreTickets, IsDecided};
-ghost use Rattle.calls_tickets.specs.kept.Watching.{calls_in, places, IsTaken};
+ghost use Rattle.calls_tickets.specs.kept.Watching.{IsTaken};
 ghost use Rattle.calls_tickets.specs.kept.Recording.{Records, TakesIn};
 
-use crate::pending::{PendingTicket, are_paired, hole_index, number, pending_index};
+use crate::pending::{are_paired, hole_index, number};
 use crate::table::{Decision, Tickets};
-use calls_core::{Action, Call, Event, PendingCall, Reply};
+use calls_core::{Action, Call, Event, NotedCall, PendingCall, find_noted};
 use std::alloc::{AllocError, Global};
 
 /// The calls so far, and the state of a monitor of any number of workers.
@@ -19,13 +21,13 @@ pub struct RecordedTickets {
     pub top: usize,
     /// The numbers below `top` that no ticket returned, ascending.
     pub holes: Vec<usize>,
-    /// The pending tickets, in the order of their invocations.
-    pub pending: Vec<PendingTicket>,
+    /// The pending tickets, in the order of their invocations, each with `top` at its invocation.
+    pub pending: Vec<NotedCall>,
 }
 
 /// Adds the numbers from `from` to below `upto`.
 fn raise(holes: &mut Vec<usize>, from: usize, upto: usize) -> Result<(), AllocError>
-    ensures { OnOk result (holes.new.items ≡ holes.old.items ++ places from (upto - from)) }
+    ensures { OnOk result (holes.new.items ≡ holes.old.items ++ range_with_len from (upto - from)) }
 {
     for i in from..upto {
         holes.push(i)?;
@@ -53,17 +55,12 @@ impl RecordedTickets {
         match event.action {
             Action::Invoke(object, op) => {
                 let noted = self.top;
-                let call = PendingCall {
-                    worker: event.worker,
-                    object,
-                    op,
-                    first: event.at,
-                };
-                self.pending.push(PendingTicket { call, noted })?;
+                let call = PendingCall::new(event, object, op);
+                self.pending.push(NotedCall { call, noted })?;
                 Ok(true)
             }
             Action::Respond(reply) => {
-                let Some(i) = pending_index(&self.pending, event.worker) else {
+                let Some(i) = find_noted(&self.pending, event.worker) else {
                     return Ok(true);
                 };
                 let ticket = self.pending.remove(i);
@@ -79,8 +76,8 @@ impl RecordedTickets {
     /// Decides whether the calls have a linearization, in which pending ones respond at position
     /// `end`.
     pub fn decide(mut self, alloc: Global, end: usize) -> Result<Decision, AllocError>
-        requires tickets { AreTickets (reverse self.done.items) (calls_in self.pending.items) end }
-        ensures { IfOk result (IsDecided (reverse self.done.items) (calls_in self.pending.items)
+        requires tickets { AreTickets (reverse self.done.items) (noted_calls self.pending.items) end }
+        ensures { IfOk result (IsDecided (reverse self.done.items) (noted_calls self.pending.items)
             end) }
     {
         self.done.reverse();

@@ -5,8 +5,9 @@ use Rattle.calls_core.specs.declared.history.Event.{Event}
 use Rattle.calls_core.specs.declared.history.PendingCall.{PendingCall}
 use Rattle.calls_core.specs.Lists.{EachFrom}
 use Rattle.calls_core.specs.Histories.{pending_of, pending_calls}
+use Rattle.calls_core.proofs.Beginnings.{past_next}
 use Rattle.calls_verdict.specs.kept.Parts.{IsFollowed, IsAdded, IsPart, object_of}
-use Rattle.calls_verdict.proofs.Finding.{reversed_more, pending_more}
+use Rattle.calls_verdict.proofs.Finding.{pending_more}
 use Rattle.calls_verdict.proofs.PartsMore.{parts_same}
 
 module _ (events : List Event) (i : ℕ) (d : Event) (lt : i < length events) where
@@ -28,7 +29,7 @@ module _ (events : List Event) (i : ℕ) (d : Event) (lt : i < length events) wh
       parts
       → EachFrom (IsPart (reverse (take (i + 1) events))) 0 later
   added_more os new o j parts later was f is added each =
-      subst (λ past. EachFrom (IsPart past) 0 later) (sym (reversed_more events i d lt))
+      subst (λ past. EachFrom (IsPart past) 0 later) (sym (past_next events i d lt))
       (added (reverse (take i events)) (object_now os new o (Some j) was f is) each)
 
   pub unadded_more : (os new : List PendingCall) (o : Option ℕ) (parts : List (List Event))
@@ -37,7 +38,7 @@ module _ (events : List Event) (i : ℕ) (d : Event) (lt : i < length events) wh
       → EachFrom (IsPart (reverse (take i events))) 0 parts
       → EachFrom (IsPart (reverse (take (i + 1) events))) 0 parts
   unadded_more os new o parts was f is each =
-      subst (λ past. EachFrom (IsPart past) 0 parts) (sym (reversed_more events i d lt))
+      subst (λ past. EachFrom (IsPart past) 0 parts) (sym (past_next events i d lt))
       (parts_same 0 (get_or events i d) (reverse (take i events)) parts
       (object_now os new o None was f is) each)
 
@@ -46,4 +47,4 @@ module _ (events : List Event) (i : ℕ) (d : Event) (lt : i < length events) wh
       → IsFollowed os new (get_or events i d) o → new ≡ pending_calls
       (reverse (take (i + 1) events))
   followed_more os new o was f =
-      pending_more events i (get_or events i d) os new o (reversed_more events i d lt) was f
+      pending_more events i (get_or events i d) os new o (past_next events i d lt) was f

@@ -8,13 +8,13 @@ use Rattle.calls_core.specs.Histories.{clock, IsHistoryOf}
 use Rattle.calls_core.specs.Beginnings.{past_at, until}
 use Rattle.calls_core.specs.Outcomes.{HasOrderOf}
 use Rattle.calls_core.proofs.Beginnings.{past_split, history_at, history_until, order_until}
+use Rattle.calls_core.proofs.Beginnings.{past_next}
 use Rattle.calls_cells.specs.declared.outcome.Undecided.{Undecided}
 use Rattle.calls_verdict.specs.Faults.{ShowsUndecided}
 use Rattle.calls_verdict.specs.Verdicts.{IsClear}
 use Rattle.calls_verdict.proofs.OfKinds.{it_stays_undecided}
 use Rattle.calls_verdict.proofs.Untils.{until_in, until_out, clock_until, clock_later, until_at}
 use Rattle.calls_verdict.proofs.Untils.{until_of}
-use Rattle.calls_verdict.proofs.Finding.{reversed_more}
 
 stays_undecided : (kind : Kind) (late past : List Event) (u : Undecided)
     → IsHistoryOf kind (late ++ past)
@@ -31,7 +31,7 @@ module _ (kind : Kind) (events : List Event) (i : ℕ) (d : Event)
 
   split : reverse events ≡ reverse (drop (i + 1) events) ++ e ∷ past_at i events
   split = past_split (i + 1) events ∙ ap (λ q. reverse (drop (i + 1) events) ++ q)
-      (reversed_more events i d lt)
+      (past_next events i d lt)
 
   history : IsHistoryOf kind (reverse (drop (i + 1) events) ++ e ∷ past_at i events)
   history = subst (IsHistoryOf kind) split h

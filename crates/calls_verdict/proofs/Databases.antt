@@ -1,18 +1,11 @@
 -- A database is decided as a cell.
-use Rattle.std.proofs.Common.{ℕ, List, [], ◌∷◌, Option, Some, None, Result, Ok, Err, IfOk}
+use Rattle.std.proofs.Common.{ℕ, List, Result, Ok, Err, IfOk}
 use Rattle.calls_core.specs.declared.history.Kind.TheVariants.{Cell, Database}
-use Rattle.calls_core.specs.declared.history.Op.TheVariants.{Advance, Read, Await, Ticket}
-use Rattle.calls_core.specs.declared.history.Op.TheVariants.{P, V, PBoth, Put, Get}
-use Rattle.calls_core.specs.declared.history.Action.{Action}
-use Rattle.calls_core.specs.declared.history.Action.TheVariants.{Invoke, Respond}
 use Rattle.calls_core.specs.declared.history.Event.{Event}
-use Rattle.calls_core.specs.declared.history.PendingCall.{PendingCall}
-use Rattle.calls_core.specs.Histories.{pending_of, pending_calls, IsNextOf, IsHistoryOf}
 use Rattle.calls_core.specs.Outcomes.{IsFirstFault}
 use Rattle.calls_verdict.specs.declared.verdict.Decision.{Decision}
 use Rattle.calls_verdict.specs.declared.verdict.Decision.TheVariants.{Ordered, Refused, Open}
 use Rattle.calls_verdict.specs.Verdicts.{IsDecision}
-use Rattle.calls_serial.proofs.Databases.{next as next_of_cell}
 
 first_fault : (Shows : List Event → Type 0) (n : ℕ) (events : List Event) (i : ℕ)
     → IsFirstFault Shows Cell events i → IsFirstFault Shows (Database n) events i

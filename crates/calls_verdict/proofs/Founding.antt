@@ -18,7 +18,7 @@ use Rattle.calls_core.specs.Linearizations.{IsRun, start}
 use Rattle.calls_core.specs.Points.{placed_one, by_points, IsPlacedOrder}
 use Rattle.calls_core.specs.Beginnings.{until}
 use Rattle.calls_core.specs.Outcomes.{IsOrderOf, HasOrderOf}
-use Rattle.calls_core.proofs.Beginnings.{order_until, until_split, history_earlier}
+use Rattle.calls_core.proofs.Beginnings.{order_until, until_split, history_earlier, past_next}
 use Rattle.calls_core.proofs.Settling.{has_order_from}
 use Rattle.calls_local.proofs.Parts.{part_history_of, part_clock}
 use Rattle.calls_cells.specs.declared.outcome.Undecided as cause
@@ -29,14 +29,11 @@ use Rattle.calls_verdict.specs.declared.verdict.Verdict.TheVariants.{Linearizabl
 use Rattle.calls_verdict.specs.declared.verdict.Verdict.TheVariants.{NotDecided}
 use Rattle.calls_verdict.specs.declared.verdict.Decision.TheVariants as decision
 use Rattle.calls_verdict.specs.declared.findings.Findings.{Findings}
-use Rattle.calls_verdict.specs.Faults.{Shows, ShowsUndecided}
-use Rattle.calls_verdict.specs.Verdicts.{IsDecision, IsCleanBefore, IsOrderedBefore}
-use Rattle.calls_verdict.specs.Verdicts.{IsVerdict}
+use Rattle.calls_verdict.specs.Faults.{Shows, ShowsUndecided, IsDecided}
+use Rattle.calls_verdict.specs.Verdicts.{IsDecision, IsCleanBefore, IsOrderedBefore, IsVerdict}
 use Rattle.calls_verdict.specs.Verdicts.{IsClear, AreClear}
-use Rattle.calls_verdict.specs.Faults.{IsDecided}
 use Rattle.calls_verdict.specs.kept.Findings.{limit, IsRefused, IsOpen, ArePlaced}
 use Rattle.calls_verdict.specs.kept.Findings.{AreFound, IsEarlier}
-use Rattle.calls_verdict.proofs.Finding.{reversed_more}
 use Rattle.calls_verdict.proofs.Untils.{part_until}
 use Rattle.calls_verdict.proofs.Clearing.{order_up_to, clear_up_to, until_event, event_early}
 use Rattle.calls_verdict.proofs.Clearing.{whole_shows}
@@ -152,7 +149,7 @@ module _ (kinds : List Kind) (past : List Event) (h : IsHistory kinds past) wher
           kind = kind;
           is = is;
           shows = subst (λ q. Shows kind q fault)
-              (reversed_more own i d l.within ∙ sym (until_event kind own i d of_kind l.within)
+              (past_next own i d l.within ∙ sym (until_event kind own i d of_kind l.within)
               ∙ ap (until ((get_or own i d).at + 1)) mine ∙ sym
               (part_until kinds n ((get_or own i d).at + 1) past h)) l.shows;
         },
@@ -207,7 +204,7 @@ module _ (kinds : List Kind) (past : List Event) (h : IsHistory kinds past) wher
             ap (limit (clock past)) refused in omega arith)
             f.clear (λ m le. subst (λ q. IsClear kind (until m q)) mine
             (clear_up_to kind own i d of_kind l.within u m (subst (λ q. ShowsUndecided kind q u)
-            (reversed_more own i d l.within) l.shows) (l.before i (omega arith))));
+            (past_next own i d l.within) l.shows) (l.before i (omega arith))));
         refused = subst (IsRefused kinds past) (sym refused) f.refused;
         undecided = subst (IsOpen kinds past) (sym undecided) (elim first [
           | inl e ↦ subst (IsOpen kinds past) e f.undecided
@@ -216,7 +213,7 @@ module _ (kinds : List Kind) (past : List Event) (h : IsHistory kinds past) wher
             is = is;
             shows = subst (λ q. ShowsUndecided kind q u) mine
                 (whole_shows kind own i d of_kind l.within u (subst (λ q. ShowsUndecided kind q u)
-                (reversed_more own i d l.within) l.shows));
+                (past_next own i d l.within) l.shows));
           })
         ]);
         placed = λ a b. absurd (none-some kept (sym b ∙ undecided));

@@ -1,8 +1,7 @@
 -- Whether events are still a history with one more event.
 use Rattle.std.proofs.Common.{◌≡◌, ℕ, zero, suc, ◌+◌, ◌-◌, ◌<◌, ◌≤◌, ◌↔◌, inl, inr, Bool, true}
-use Rattle.std.proofs.Common.{false}
-use Rattle.std.proofs.Common.{List, length, get_or, Option, Some, None, IsTrue, nat_le}
-use Rattle.std.proofs.Common.{ap, sym, ◌∙◌, arith, subst, slice_get}
+use Rattle.std.proofs.Common.{false, List, length, get_or, Option, Some, None, IsTrue, nat_le, ap}
+use Rattle.std.proofs.Common.{sym, ◌∙◌, arith, subst, slice_get}
 use Rattle.std.proofs.lemmas.Bool.{cases_lt, leb-true, le-leb, false≢true}
 use Rattle.std.proofs.lemmas.Option.{get_or_from_slice_get, slice_get-get_or}
 use Rattle.calls_core.specs.declared.history.Kind.{Kind}
@@ -12,12 +11,12 @@ use Rattle.calls_core.specs.declared.history.Event.{Event}
 use Rattle.calls_core.specs.declared.history.PendingCall.{PendingCall}
 use Rattle.calls_core.specs.Histories.{clock, pending_of, pending_calls, IsNext, IsHistory}
 use Rattle.calls_core.specs.Beginnings.{past_at}
+use Rattle.calls_core.proofs.Beginnings.{past_next}
 use Rattle.calls_verdict.specs.declared.checking.Misuse.{Misuse}
 use Rattle.calls_verdict.specs.declared.checking.Misuse.TheVariants.{OutOfOrder, Busy, NotTaken}
 use Rattle.calls_verdict.specs.declared.checking.Misuse.TheVariants.{Idle, Unsuited}
 use Rattle.calls_verdict.specs.Misuses.{IsMisuseBy, IsMisuse, rank, IsFirstMisuse}
 use Rattle.calls_verdict.specs.kept.Tests.{IsFirstMisuseBy}
-use Rattle.calls_verdict.proofs.Finding.{reversed_more}
 
 -- POSITIONS
 
@@ -33,7 +32,7 @@ order_test events (suc i) d e lt low x is =
     let next : suc i ≡ i + 1 = omega arith in
     let prior : suc i - 1 ≡ i = omega arith in
     let before : clock (past_at (suc i) events) ≡ (get_or events i e).at + 1 =
-    ap (λ j. clock (past_at j events)) next ∙ ap clock (reversed_more events i e (omega arith)) in
+    ap (λ j. clock (past_at j events)) next ∙ ap clock (past_next events i e (omega arith)) in
     let same : (get_or events (suc i - 1) e).at ≡ (get_or events i e).at =
     ap (λ j. (get_or events j e).at) prior in (
       λ on. omega (
@@ -109,7 +108,7 @@ module _ (kinds : List Kind) (events : List Event) (i : ℕ) (d : Event) (lt : i
     within = lt;
     before = h;
     no_history = λ more. (let le : clock past ≤ e.at = (subst (IsHistory kinds)
-        (reversed_more events i d lt) more).0 in
+        (past_next events i d lt) more).0 in
         omega (arith, (test e (slice_get-get_or events i d lt)).0 on));
     holds = λ x is. (test x is).0 on;
     first = λ x is n less w. absurd (omega arith);
@@ -122,7 +121,7 @@ module _ (kinds : List Kind) (events : List Event) (i : ℕ) (d : Event) (lt : i
 
     pub next_history : IsNext kinds e.action call → IsHistory kinds (past_at (i + 1) events)
     next_history n =
-        subst (IsHistory kinds) (sym (reversed_more events i d lt))
+        subst (IsHistory kinds) (sym (past_next events i d lt))
         (le, subst (IsNext kinds e.action) call_is n, h)
 
     pub misused : (m : Misuse) → IsFirstMisuseBy kinds e.action call m
@@ -132,7 +131,7 @@ module _ (kinds : List Kind) (events : List Event) (i : ℕ) (d : Event) (lt : i
       before = h;
       no_history = λ more. not_next kinds e.action (pending_of e.worker (pending_calls past)) m
           (subst (λ o. IsMisuseBy kinds e.action o m) call_is f.holds)
-          (subst (IsHistory kinds) (reversed_more events i d lt) more).1;
+          (subst (IsHistory kinds) (past_next events i d lt) more).1;
       holds = λ x at. subst (λ y. IsMisuse kinds past y m) (only x at)
           (whole_misuse kinds past e m f.later (subst (λ o. IsMisuseBy kinds e.action o m) call_is
           f.holds));

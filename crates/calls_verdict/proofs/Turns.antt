@@ -1,13 +1,11 @@
 -- The requirements of the decision on the object with the next index.
 use Rattle.std.proofs.Common.{◌≡◌, ℕ, zero, suc, ◌+◌, ◌<◌, ◌≤◌, ◌^◌, List, [], ◌∷◌, length, reverse}
-use Rattle.std.proofs.Common.{get_or}
-use Rattle.std.proofs.Common.{Some, refl, ap, sym, ◌∙◌, arith, subst, slice_get}
+use Rattle.std.proofs.Common.{get_or, Some, refl, ap, sym, ◌∙◌, arith, subst, slice_get}
 use Rattle.std.proofs.lemmas.Option.{slice_get_read}
 use Rattle.calls_core.specs.declared.history.Kind.{Kind}
 use Rattle.calls_core.specs.declared.history.Event.{Event}
 use Rattle.calls_core.specs.Lists.{EachFrom}
-use Rattle.calls_core.specs.Histories.{clock, part, IsHistory}
-use Rattle.calls_core.specs.Histories.{IsHistoryOf}
+use Rattle.calls_core.specs.Histories.{clock, part, IsHistory, IsHistoryOf}
 use Rattle.calls_local.proofs.Parts.{part_history_of, part_clock}
 use Rattle.calls_verdict.specs.declared.verdict.Decision.{Decision}
 use Rattle.calls_verdict.specs.declared.verdict.Decision.TheVariants.{Ordered, Refused, Open}

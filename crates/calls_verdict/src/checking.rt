@@ -8,8 +8,8 @@ ghost use Rattle.calls_core.specs.Beginnings.{past_at};
 ghost use Rattle.calls_verdict.specs.Misuses.{IsMisuseBy, IsFirstMisuse};
 ghost use Rattle.calls_verdict.specs.kept.Tests.{IsFirstMisuseBy};
 
-use crate::splitting::{find, follow};
-use calls_core::{Action, Event, Kind, Op, PendingCall, Reply};
+use crate::splitting::follow;
+use calls_core::{Action, Event, Kind, Op, PendingCall, Reply, find};
 use std::alloc::{AllocError, Global};
 
 /// Why events are no history.
@@ -27,38 +27,19 @@ pub enum Misuse {
     Unsuited,
 }
 
-/// Returns whether this is an operation of semaphores, one for each number of units.
-fn takes_units(units: &Vec<usize>, op: Op) -> bool
-    ensures { IsTrue result ↔ Takes (Some (Semaphores units.now)) op }
-{
-    match op {
-        Op::P(i) => i < units.len(),
-        Op::V(i) => i < units.len(),
-        Op::PBoth(i, j) => i < units.len() && j < units.len() && i != j,
-        _ => false,
-    }
-}
-
-/// Returns whether this is an operation of an object of this kind.
-fn takes(kind: &Kind, op: Op) -> bool
-    ensures { IsTrue result ↔ Takes (Some kind.now) op }
-{
-    match kind {
-        Kind::Eventcount(_) => matches!(op, Op::Advance | Op::Read | Op::Await(_)),
-        Kind::Sequencer => matches!(op, Op::Ticket),
-        Kind::Semaphores(units) => takes_units(units, op),
-        Kind::Cell => matches!(op, Op::Put(_) | Op::Get),
-        Kind::Database(_) => matches!(op, Op::Put(_) | Op::Get),
-    }
-}
-
 /// Returns whether this is an operation of the object at this index.
 fn is_taken(kinds: &[Kind], object: usize, op: Op) -> bool
     ensures { IsTrue result ↔ Takes (slice_get kinds.now object) op }
 {
-    match kinds.get(object) {
-        Some(kind) => takes(kind, op),
-        None => false,
+    match (kinds.get(object), op) {
+        (Some(Kind::Eventcount(_)), Op::Advance | Op::Read | Op::Await(_)) => true,
+        (Some(Kind::Sequencer), Op::Ticket) => true,
+        (Some(Kind::Semaphores(units)), Op::P(i) | Op::V(i)) => i < units.len(),
+        (Some(Kind::Semaphores(units)), Op::PBoth(i, j)) => {
+            i < units.len() && j < units.len() && i != j
+        }
+        (Some(Kind::Cell | Kind::Database(_)), Op::Put(_) | Op::Get) => true,
+        _ => false,
     }
 }
 
@@ -98,26 +79,23 @@ fn misuse_by(kinds: &[Kind], action: Action, pending: Option<PendingCall>) -> Op
     ensures { MatchOption result (IsNext kinds.now action pending)
         (IsFirstMisuseBy kinds.now action pending) }
 {
-    match action {
-        Action::Invoke(object, op) => {
-            if pending.is_some() {
-                Some(Misuse::Busy)
-            } else if is_taken(kinds, object, op) {
+    match (action, pending) {
+        (Action::Invoke(_, _), Some(_)) => Some(Misuse::Busy),
+        (Action::Invoke(object, op), None) => {
+            if is_taken(kinds, object, op) {
                 None
             } else {
                 Some(Misuse::NotTaken)
             }
         }
-        Action::Respond(reply) => match pending {
-            None => Some(Misuse::Idle),
-            Some(call) => {
-                if suits(call.op, reply) {
-                    None
-                } else {
-                    Some(Misuse::Unsuited)
-                }
+        (Action::Respond(_), None) => Some(Misuse::Idle),
+        (Action::Respond(reply), Some(call)) => {
+            if suits(call.op, reply) {
+                None
+            } else {
+                Some(Misuse::Unsuited)
             }
-        },
+        }
     }
 }
 

@@ -15,20 +15,14 @@ fn end_of(events: &[Event]) -> usize
     requires { clock (reverse events.now) < 2 ^ 64 }
     ensures { result ≡ clock (reverse events.now) }
 {
-    match events.last() {
-        Some(event) => event.at + 1,
-        None => 0,
-    }
+    events.last().map_or(0, |event| event.at + 1)
 }
 
 /// Returns whether the first position after the events fits a `usize`, as `decide` requires.
 pub fn has_room(events: &[Event]) -> bool
     ensures { IsTrue result ↔ (clock (reverse events.now) < 2 ^ 64) }
 {
-    match events.last() {
-        Some(event) => event.at < usize::MAX,
-        None => true,
-    }
+    events.last().is_none_or(|event| event.at < usize::MAX)
 }
 
 /// Decides whether a history has a linearization.

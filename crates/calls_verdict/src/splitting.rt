@@ -1,25 +1,11 @@
 //! Splits the events of a history by their objects.
-ghost use Rattle.std.specs.Prelude.{◌≡◌, [], length, reverse, IfOk, OnOk, MatchOption, None};
-ghost use Rattle.calls_core.specs.Histories.{pending_of};
-ghost use Rattle.calls_verdict.specs.kept.Parts.{IsPendingOf, IsFollowed, IsPart, IsAdded};
+ghost use Rattle.std.specs.Prelude.{◌≡◌, [], length, reverse, IfOk, OnOk};
+ghost use Rattle.calls_verdict.specs.kept.Parts.{IsFollowed, IsPart, IsAdded};
 ghost use Rattle.calls_verdict.specs.kept.Parts.{AreParts};
 ghost use Rattle.calls_core.specs.Lists.{EachFrom};
 
-use calls_core::{Action, Event, Kind, PartList, PendingCall};
+use calls_core::{Action, Event, Kind, PartList, PendingCall, take_pending};
 use std::alloc::{AllocError, Global};
-
-/// Returns the index of a worker's pending call, or `None` if it has none.
-pub fn find(pending: &[PendingCall], worker: usize) -> Option<usize>
-    ensures { MatchOption result (pending_of worker pending.now ≡ None)
-        (IsPendingOf pending.now worker) }
-{
-    for (i, call) in pending.iter().enumerate() {
-        if call.worker == worker {
-            return Some(i);
-        }
-    }
-    None
-}
 
 /// Updates the pending calls with an event, and returns the index of the event's object.
 ///
@@ -29,18 +15,12 @@ pub fn follow(pending: &mut Vec<PendingCall>, event: &Event) -> Result<Option<us
 {
     match event.action {
         Action::Invoke(object, op) => {
-            pending.push(PendingCall {
-                worker: event.worker,
-                object,
-                op,
-                first: event.at,
-            })?;
+            pending.push(PendingCall::new(*event, object, op))?;
             Ok(Some(object))
         }
-        Action::Respond(_reply) => match find(pending, event.worker) {
-            Some(i) => Ok(Some(pending.remove(i).object)),
-            None => Ok(None),
-        },
+        Action::Respond(_reply) => {
+            Ok(take_pending(pending, event.worker).map(|call| call.object))
+        }
     }
 }
 

@@ -1,22 +1,19 @@
 -- What the state of a monitor represents, and what its parts do.
-use Rattle.std.specs.Prelude.{◌≡◌, ℕ, ◌+◌, ◌-◌, ◌^◌, ◌<◌, ◌≤◌, List, ◌∷◌, length, map, set}
+use Rattle.std.specs.Prelude.{◌≡◌, ℕ, ◌+◌, ◌-◌, ◌^◌, ◌<◌, ◌≤◌, List, ◌∷◌, length, set}
 use Rattle.std.specs.Prelude.{Some, slice_get, Result, Ok, Err}
-use Rattle.calls_core.specs.declared.history.TheConstants.{WORKERS}
 use Rattle.calls_core.specs.declared.history.Kind.{Kind}
 use Rattle.calls_core.specs.declared.history.Kind.TheVariants.{Eventcount, Sequencer, Semaphores}
 use Rattle.calls_core.specs.declared.history.Kind.TheVariants.{Cell, Database}
 use Rattle.calls_core.specs.declared.history.Action.{Action}
-use Rattle.calls_core.specs.declared.history.Action.TheVariants.{Invoke, Respond}
 use Rattle.calls_core.specs.declared.history.Event.{Event}
-use Rattle.calls_core.specs.declared.history.PendingCall.{PendingCall}
 use Rattle.calls_core.specs.Histories.{pending_calls, completed_calls, IsHistoryOf, part}
-use Rattle.calls_counts.specs.Monitors.{IsTaken, HasRoom}
+use Rattle.calls_core.specs.Pending.{HasRoom}
+use Rattle.calls_counts.specs.Monitors.{IsTaken}
 use Rattle.calls_tickets.specs.Monitors.{IsAccepted as IsTicketed}
 use Rattle.calls_semaphores.specs.Monitors.{Represents, UpTo}
 use Rattle.calls_monitor.specs.declared.object.Watch.{Watch}
 use Rattle.calls_monitor.specs.declared.object.Watch.TheVariants.{Count, Ticket, Units, Nothing}
 use Rattle.calls_monitor.specs.declared.object.Refusal.{Refusal}
-use Rattle.calls_monitor.specs.declared.monitor.Pending.{Pending}
 use Rattle.calls_monitor.specs.declared.monitor.Monitor.{Monitor}
 use Rattle.calls_monitor.specs.declared.monitor.Rejection.{Rejection}
 use Rattle.calls_monitor.specs.declared.monitor.Rejection.TheVariants.{Refused, Full}
@@ -59,12 +56,9 @@ JudgesOf old new x result =
 
 -- ALL OBJECTS
 
-abbrev pub entry : PendingCall → Pending
-entry o = record { worker = o.worker; object = o.object }
-
 -- the monitor represents the history so far
 pub record Watches (kinds : List Kind) (past : List Event) (m : Monitor) : Type 0 where
-  pub pending : m.pending.items ≡ map entry (pending_calls past)
+  pub pending : m.pending.items ≡ pending_calls past
   pub each : (k : ℕ) (kind : Kind) → slice_get kinds k ≡ Some kind
       → (w : Watch) × (slice_get m.objects.items k ≡ Some w) × WatchesOf kind (part k past) w
 

@@ -1,8 +1,7 @@
 -- What the functions of the pass do. Only the proofs and the private contracts use this.
 use Rattle.std.specs.Prelude.{◌≡◌, ℕ, ◌+◌, ◌-◌, ◌<◌, ◌≤◌, List, [], ◌∷◌, ◌++◌, length}
 use Rattle.std.specs.Prelude.{reverse}
-use Rattle.std.specs.Prelude.{Option, Some, None, MatchOption, slice_get, Bool, IsTrue, ◌↔◌}
-use Rattle.std.specs.List.{remove}
+use Rattle.std.specs.Prelude.{Option, Some, None, MatchOption, Bool, IsTrue, ◌↔◌}
 use Rattle.calls_core.specs.declared.history.Kind.TheVariants.{Cell}
 use Rattle.calls_core.specs.declared.history.Op.TheVariants.{Get}
 use Rattle.calls_core.specs.declared.history.Reply.{Reply}
@@ -15,8 +14,6 @@ use Rattle.calls_core.specs.Histories.{clock, pending_of, without, completion, c
 use Rattle.calls_core.specs.Histories.{pending_calls, IsHistoryOf, Takes, Suits}
 use Rattle.calls_core.specs.Calls.{Early}
 use Rattle.calls_serial.specs.declared.outcome.Fault.{Fault}
-use Rattle.calls_serial.specs.declared.outcome.Outcome.{Outcome}
-use Rattle.calls_serial.specs.declared.outcome.Outcome.TheVariants.{Refused, Overlapping}
 use Rattle.calls_serial.specs.declared.stage.Stage.{Stage}
 use Rattle.calls_serial.specs.declared.stage.Link.{Link}
 use Rattle.calls_serial.specs.declared.stage.Pass.{Pass}
@@ -27,13 +24,6 @@ use Rattle.calls_serial.specs.Outcomes.{AreBothPending}
 use Rattle.calls_serial.specs.kept.Stages.{StageView, helds, Current, current}
 use Rattle.calls_serial.specs.kept.Stages.{AreStages}
 use Rattle.calls_serial.specs.kept.Stages.{links_with, with_get, with_late, with_response}
-
--- the pending call of a worker is at index i
-pub record IsCallAt (pending : List PendingCall) (w i : ℕ) : Type 0 where
-  pub call : PendingCall
-  pub here : slice_get pending i ≡ Some call
-  pub his : pending_of w pending ≡ Some call
-  pub others : without w pending ≡ remove pending i
 
 abbrev pub first_of : {X : Type 0} → List X → Option X
 first_of [] = None
@@ -150,7 +140,3 @@ abbrev pub TakesIn : ℕ → Pass → Pass → Event → Option Stop → Type 0
 TakesIn end old new x stop =
     (past : List Event) → IsHistoryOf Cell (x ∷ past) → x.at < end → Holds end past old
     → Stops end (x ∷ past) new stop
-
-abbrev pub outcome_of : ℕ → Stop → Outcome
-outcome_of i (Fails fault) = Refused i fault
-outcome_of i (Overlaps o p) = Overlapping o p

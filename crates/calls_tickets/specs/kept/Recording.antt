@@ -3,14 +3,15 @@ use Rattle.std.specs.Prelude.{◌≡◌, List, ◌∷◌, reverse, Bool, true, f
 use Rattle.calls_core.specs.declared.history.Kind.TheVariants.{Sequencer}
 use Rattle.calls_core.specs.declared.history.Event.{Event}
 use Rattle.calls_core.specs.Histories.{completed_calls, pending_calls, IsHistoryOf}
+use Rattle.calls_core.specs.Pending.{noted_calls}
 use Rattle.calls_tickets.specs.declared.fault.Fault.{Fault}
 use Rattle.calls_tickets.specs.declared.recorded.RecordedTickets.{RecordedTickets}
 use Rattle.calls_tickets.specs.Faults.{Shows}
-use Rattle.calls_tickets.specs.kept.Watching.{Watching, calls_in}
+use Rattle.calls_tickets.specs.kept.Watching.{Watching}
 
 pub record AreGathered (past : List Event) (r : RecordedTickets) : Type 0 where
   pub done_are : reverse r.done.items ≡ completed_calls past
-  pub pending_are : calls_in r.pending.items ≡ pending_calls past
+  pub pending_are : noted_calls r.pending.items ≡ pending_calls past
 
 pub record Records (past : List Event) (r : RecordedTickets) : Type 0 where
   pub gathered : AreGathered past r

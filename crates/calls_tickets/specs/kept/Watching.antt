@@ -1,22 +1,15 @@
 -- How the state of a monitor represents the history so far.
 use Rattle.std.specs.Prelude.{◌≡◌, ◌⊎◌, ℕ, zero, suc, ◌+◌, ◌-◌, ◌<◌, ◌≤◌, ◌==◌, min, Bool, true}
 use Rattle.std.specs.Prelude.{false, List, [], ◌∷◌, ◌++◌, length, map, count_by, Some, slice_get}
-use Rattle.std.specs.List.{Contains, remove}
+use Rattle.std.specs.List.{Contains, remove, range_with_len as places}
 use Rattle.calls_core.specs.declared.history.Event.{Event}
 use Rattle.calls_core.specs.declared.history.PendingCall.{PendingCall}
 use Rattle.calls_core.specs.declared.history.Call.{Call}
 use Rattle.calls_core.specs.Lists.{Each, EachPair}
 use Rattle.calls_core.specs.Histories.{clock, completed_calls, pending_calls, pending_of, without}
-use Rattle.calls_tickets.specs.declared.pending.PendingTicket.{PendingTicket}
+use Rattle.calls_core.specs.declared.pending.NotedCall.{NotedCall}
+use Rattle.calls_core.specs.Pending.{noted_calls}
 use Rattle.calls_tickets.specs.Faults.{number, FromTurned}
-
-abbrev pub calls_in : List PendingTicket → List PendingCall
-calls_in us = map (λ (u : PendingTicket). u.call) us
-
--- the n numbers from p on
-abbrev pub places : ℕ → ℕ → List ℕ
-places p zero = []
-places p (suc n) = p ∷ places (p + 1) n
 
 -- NUMBERS AND TICKETS
 
@@ -37,39 +30,32 @@ pub record AreHoles (done : List Call) (top : ℕ) (holes : List ℕ) : Type 0 w
 
 -- for each hole, the pending ticket with the same index was invoked before a number as great as the
 -- hole was returned
-abbrev pub Paired : List ℕ → List PendingTicket → Type 0
+abbrev pub Paired : List ℕ → List NotedCall → Type 0
 Paired [] us = Unit {0}
 Paired (h ∷ hs) [] = ⊥
 Paired (h ∷ hs) (u ∷ us) = (u.noted ≤ h) × Paired hs us
 
-abbrev pub Unpaired : List ℕ → List PendingTicket → Type 0
+abbrev pub Unpaired : List ℕ → List NotedCall → Type 0
 Unpaired [] us = ⊥
 Unpaired (h ∷ hs) [] = Unit {0}
 Unpaired (h ∷ hs) (u ∷ us) = (h < u.noted) ⊎ Unpaired hs us
 
 -- what holds of the state, apart from the pairs of holes and pending tickets
 pub record Following (past : List Event) (top : ℕ) (holes : List ℕ)
-    (us : List PendingTicket) : Type 0 where
-  pub pending_is : pending_calls past ≡ calls_in us
+    (us : List NotedCall) : Type 0 where
+  pub pending_is : pending_calls past ≡ noted_calls us
   pub holes_are : AreHoles (completed_calls past) top holes
   pub top_is : IsTop (completed_calls past) (clock past) top
-  pub noted : Each (λ (u : PendingTicket). IsTop (completed_calls past) u.call.first u.noted) us
+  pub noted : Each (λ (u : NotedCall). IsTop (completed_calls past) u.call.first u.noted) us
   pub straight : (a b : Call) → FromTurned (completed_calls past) a b → ⊥
 
 -- the state represents the history so far
 pub record Watching (past : List Event) (top : ℕ) (holes : List ℕ)
-    (us : List PendingTicket) : Type 0 where
+    (us : List NotedCall) : Type 0 where
   pub follows : Following past top holes us
   pub paired : Paired holes us
 
 -- WHAT THE FUNCTIONS RETURN
-
--- a worker's pending ticket is at index i
-pub record IsPendingAt (us : List PendingTicket) (w i : ℕ) : Type 0 where
-  pub ticket : PendingTicket
-  pub at : slice_get us i ≡ Some ticket
-  pub first : pending_of w (calls_in us) ≡ Some ticket.call
-  pub others : without w (calls_in us) ≡ calls_in (remove us i)
 
 abbrev pub IsHoleAt : List ℕ → ℕ → ℕ → Type 0
 IsHoleAt holes n k = slice_get holes k ≡ Some n
@@ -77,7 +63,7 @@ IsHoleAt holes n k = slice_get holes k ≡ Some n
 abbrev pub NoHole : List ℕ → ℕ → Type 0
 NoHole holes n = Each (λ (h : ℕ). h ≡ n → ⊥) holes
 
-abbrev pub IsPaired : List ℕ → List PendingTicket → Bool → Type 0
+abbrev pub IsPaired : List ℕ → List NotedCall → Bool → Type 0
 IsPaired holes us true = Paired holes us
 IsPaired holes us false = Unpaired holes us
 

@@ -1,19 +1,11 @@
 -- The events of each object, as a list for each.
-use Rattle.std.specs.Prelude.{◌≡◌, ℕ, ◌<◌, List, ◌∷◌, length, reverse, Option, Some, None}
-use Rattle.std.specs.Prelude.{slice_index_or}
-use Rattle.std.specs.List.{remove}
+use Rattle.std.specs.Prelude.{◌≡◌, ℕ, List, ◌∷◌, length, reverse, Option, Some, None}
 use Rattle.calls_core.specs.declared.history.Action.{Action}
 use Rattle.calls_core.specs.declared.history.Action.TheVariants.{Invoke, Respond}
 use Rattle.calls_core.specs.declared.history.Event.{Event}
 use Rattle.calls_core.specs.declared.history.PendingCall.{PendingCall}
-use Rattle.calls_core.specs.Histories.{pending_of, without, pending_after, pending_calls, part}
+use Rattle.calls_core.specs.Histories.{pending_of, pending_after, pending_calls, part}
 use Rattle.calls_core.specs.Lists.{EachFrom}
-
--- a worker's pending call is at index i
-pub record IsPendingOf (os : List PendingCall) (w i : ℕ) : Type 0 where
-  pub inside : i < length os
-  pub first : (d : PendingCall) → pending_of w os ≡ Some (slice_index_or os i d)
-  pub others : without w os ≡ remove os i
 
 -- the index of the object of an event, if its worker has this pending call
 abbrev pub object_of : Action → Option PendingCall → Option ℕ

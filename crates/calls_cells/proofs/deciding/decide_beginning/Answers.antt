@@ -1,4 +1,4 @@
-use Rattle.std.proofs.Common.{◌≡◌, ◌+◌, ◌≤◌, take, reverse, arith, subst}
+use Rattle.std.proofs.Common.{◌≡◌, ◌+◌, ◌≤◌, take, reverse, arith, subst, ◌-◌, ◌/◌}
 use Rattle.std.proofs.Common.{sym}
 use Rattle.std.proofs.lemmas.List.{take_all}
 use Rattle.calls_core.specs.declared.history.Kind.TheVariants.{Cell}
@@ -11,7 +11,7 @@ use Rattle.calls_cells.specs.kept.Tries.{IsTry}
 use Rattle.calls_cells.specs.declared.deciding.Try.TheVariants.{Ordered, Refused, Open}
 use Rattle.calls_cells.specs.Faults.{Shows, ShowsUndecided}
 use Rattle.calls_cells.proofs.Trying.{before_end, fault_longer, some_events}
-use Rattle.calls_distinct.proofs.Earlier.{order_of_none as nothing_ordered}
+use Rattle.calls_distinct.proofs.Earlier.{order_of_none as nothing_ordered, middle_between}
 use Rattle.calls_cells.proofs.deciding.decide_beginning.Goals.{in-Ordered, in-Open}
 use Rattle.calls_cells.proofs.deciding.decide_beginning.Goals as goal
 
@@ -31,17 +31,18 @@ loop-high-init c =
 pub try_both-requires-clause-history : goal.try_both-requires-clause-history
 try_both-requires-clause-history c = subst (λ zs. IsHistoryOf Cell (reverse zs))
     (sym c.first-beginning.ensures)
-    (history_at Cell c.middle-mid.result c.args.events.now c.requires.history)
+    (history_at Cell (c.loop-high.low + (c.loop-high.high - c.loop-high.low) / 2)
+    c.args.events.now c.requires.history)
 
 pub try_both-requires-clause-late : goal.try_both-requires-clause-late
 try_both-requires-clause-late c = subst (λ zs. clock (reverse zs) ≤ c.args.end)
     (sym c.first-beginning.ensures)
-    (before_end Cell c.middle-mid.result c.args.end c.args.events.now c.requires.history
-    c.requires.late)
+    (before_end Cell (c.loop-high.low + (c.loop-high.high - c.loop-high.low) / 2) c.args.end
+    c.args.events.now c.requires.history c.requires.late)
 
 pub returns-in-Refused : goal.returns-in-Refused
 returns-in-Refused c =
-    (let mid = c.middle-mid.result in
+    (let mid = c.loop-high.low + (c.loop-high.high - c.loop-high.low) / 2 in
     let found : IsTry (take mid c.args.events.now) c.args.end
     (Refused c.in-Refused.i c.in-Refused.fault) =
     subst (IsTry (take mid c.args.events.now) c.args.end) c.in-Refused.is
@@ -53,9 +54,11 @@ returns-in-Refused c =
 pub loop-high-preserved-after-branch-2 : goal.loop-high-preserved-after-branch-2
 loop-high-preserved-after-branch-2 c = elim c.match-branch-2.branch [
   | in-Ordered w ↦ (let events = c.args.events.now in
-      let mid = c.middle-mid.result in
-      let above = c.middle-mid.ensures.above in
-      let below = c.middle-mid.ensures.below in
+      let mid = c.loop-high.low + (c.loop-high.high - c.loop-high.low) / 2 in
+      let between = middle_between c.loop-high.low c.loop-high.high c.loop-high.invariant.apart
+      c.loop-high-test.true in
+      let above = between.0 in
+      let below = between.1 in
       let low = w.low-is in
       let high = w.high-is in
       let test = c.loop-high-test.true in
@@ -76,9 +79,11 @@ loop-high-preserved-after-branch-2 c = elim c.match-branch-2.branch [
             c.loop-high.invariant.shown);
       })
   | in-Open w ↦ (let events = c.args.events.now in
-      let mid = c.middle-mid.result in
-      let above = c.middle-mid.ensures.above in
-      let below = c.middle-mid.ensures.below in
+      let mid = c.loop-high.low + (c.loop-high.high - c.loop-high.low) / 2 in
+      let between = middle_between c.loop-high.low c.loop-high.high c.loop-high.invariant.apart
+      c.loop-high-test.true in
+      let above = between.0 in
+      let below = between.1 in
       let low = w.low-is in
       let high = w.high-is in
       let test = c.loop-high-test.true in

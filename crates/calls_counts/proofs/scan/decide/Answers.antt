@@ -1,5 +1,5 @@
 -- The pass over the events, and the order at its end.
-use Rattle.std.proofs.Common.{◌<◌, length, reverse, sym, arith, subst, below_more}
+use Rattle.std.proofs.Common.{◌<◌, length, reverse, sym, arith, subst}
 use Rattle.calls_core.specs.declared.history.Kind.TheVariants.{Eventcount}
 use Rattle.calls_core.specs.declared.history.Event.{Event}
 use Rattle.calls_core.specs.declared.history.Action.TheVariants.{Invoke}
@@ -8,13 +8,13 @@ use Rattle.calls_core.specs.Histories.{completed_calls, clock}
 use Rattle.calls_core.specs.Calls.{Earlier}
 use Rattle.calls_core.specs.Lists.{EachPair}
 use Rattle.calls_core.specs.Beginnings.{past_at}
-use Rattle.calls_core.specs.Outcomes.{HasOrderOf}
-use Rattle.calls_counts.specs.ScanStates.{noted_calls}
+use Rattle.calls_core.specs.Pending.{noted_calls}
+use Rattle.calls_core.proofs.Beginnings.{past_all, history_at, orders_before}
 use Rattle.calls_counts.specs.Orders.{IsOrdering}
 use Rattle.calls_counts.specs.Scanning.{Holds, Completes, TakesIn}
 use Rattle.calls_counts.proofs.Events.{pending_rise}
-use Rattle.calls_counts.proofs.Deciding.{past_all, begun_within, took_fault, took_next}
-use Rattle.calls_counts.proofs.Deciding.{history_upto, ordered, kept_has_order, upto}
+use Rattle.calls_counts.proofs.Deciding.{begun_within, took_fault, took_next}
+use Rattle.calls_counts.proofs.Deciding.{ordered, kept_has_order}
 use Rattle.calls_counts.proofs.scan.decide.Goals as goal
 
 no_event : Event
@@ -27,7 +27,7 @@ take_in-requires c =
       arith,
       begun_within c.args.start c.args.events.now c.loop-i.i s.begun s.slots.items
           s.pending.items s.reads.items (omega (arith, c.loop-i-test.true, c.len-i-end.ensures))
-          c.loop-i.invariant.0.holds,
+          c.loop-i.invariant.holds,
     )
 
 pub returns-in-Some : goal.returns-in-Some
@@ -42,13 +42,13 @@ returns-in-Some c =
     record {
       within = lt;
       shows = took_fault c.args.start events n.i no_event lt c.requires.history s
-          c.take_in.new.scan c.in_ok-fault.field-0 took n.invariant.0
+          c.take_in.new.scan c.in_ok-fault.field-0 took n.invariant
           c.in-Some.fault c.in-Some.is;
-      before = λ k le. upto (λ j. HasOrderOf (Eventcount c.args.start) (past_at j events)) n.i
-          n.invariant.1
+      before = λ k le.
+          (let h = history_at (Eventcount c.args.start) n.i events c.requires.history in
+          orders_before (Eventcount c.args.start) n.i k events le h
           (kept_has_order c.args.start (past_at n.i events) s.begun s.slots.items s.pending.items
-          s.reads.items (history_upto c.args.start events n.i c.requires.history)
-          n.invariant.0.holds) k le;
+          s.reads.items h n.invariant.holds));
     }
 
 pub loop-i-preserved : goal.loop-i-preserved
@@ -59,15 +59,9 @@ loop-i-preserved c =
     let events = c.args.events.now in
     let lt : n.i < length events = omega (arith, c.loop-i-test.true, c.len-i-end.ensures) in
     let took = subst (λ (x : Event). TakesIn c.args.start s c.take_in.new.scan x
-    c.in_ok-fault.field-0) (c.at-event.ensures no_event) c.in_ok-fault.ensures in (
-      took_next c.args.start events n.i no_event lt c.requires.history s
-          c.take_in.new.scan c.in_ok-fault.field-0 took n.invariant.0
-          c.in_default.is,
-      below_more (λ j. HasOrderOf (Eventcount c.args.start) (past_at j events)) n.i n.invariant.1
-          (kept_has_order c.args.start (past_at n.i events) s.begun s.slots.items s.pending.items
-          s.reads.items (history_upto c.args.start events n.i c.requires.history)
-          n.invariant.0.holds),
-    )
+    c.in_ok-fault.field-0) (c.at-event.ensures no_event) c.in_ok-fault.ensures in
+    took_next c.args.start events n.i no_event lt c.requires.history s c.take_in.new.scan
+    c.in_ok-fault.field-0 took n.invariant c.in_default.is
 
 pub returns : goal.returns
 returns c =
@@ -77,7 +71,7 @@ returns c =
     let holds : Holds start past s.begun s.slots.items s.pending.items s.reads.items =
     subst (λ p. Holds start p s.begun s.slots.items s.pending.items s.reads.items)
     (past_all c.args.events.now c.loop-i.i
-    (omega (arith, c.loop-i-test.false, c.len-i-end.ensures))) c.loop-i.invariant.0.holds in
+    (omega (arith, c.loop-i-test.false, c.len-i-end.ensures))) c.loop-i.invariant.holds in
     let rise : EachPair Earlier (noted_calls s.pending.items) =
     subst (EachPair Earlier) (sym holds.pending_is)
     (pending_rise (Eventcount start) past c.requires.history) in
@@ -85,7 +79,7 @@ returns c =
     c.in_ok-calls.calls c.requires.history holds.pending_is
     (subst (λ us. Completes s.slots.items c.complete.new.slots.items s.next.items us c.args.end)
     c.deref.ensures.value c.complete.ensures
-    c.loop-i.invariant.0.skips start (completed_calls past) (clock past) s.begun s.reads.items
+    c.loop-i.invariant.skips start (completed_calls past) (clock past) s.begun s.reads.items
     c.requires.time rise holds.state)
     (subst (λ zs. IsOrdering zs s.reads.items c.in_ok-calls.calls) c.deref-2.ensures.value
     c.in_ok-calls.ensures)

@@ -1,25 +1,28 @@
 -- A response.
-use Rattle.std.proofs.Common.{◌≡◌, ◌≤◌, false, sym, ◌∙◌, subst, length, Option, MatchOption}
+use Rattle.std.proofs.Common.{◌≡◌, ◌≤◌, ◌++◌, ◌∷◌, [], false, ap, sym, ◌∙◌, subst, length}
+use Rattle.std.proofs.Common.{Option, MatchOption, IfOk}
+use Rattle.calls_core.specs.declared.history.Call.{Call}
 use Rattle.calls_counts.specs.declared.fault.Fault.{Fault}
 use Rattle.calls_core.specs.Histories.{completion, Suits}
+use Rattle.calls_core.specs.Pending.{IsNotedOf}
 use Rattle.calls_counts.specs.Faults.{is_advance}
-use Rattle.calls_counts.specs.Scanning.{IsCallAt, IsFilled, NoneFree, IsObserved, IsRefused}
+use Rattle.calls_counts.specs.Scanning.{slot_of_call, IsFilled, NoneFree, IsObserved, IsRefused}
 use Rattle.calls_counts.specs.Scanning.{TakesIn}
 use Rattle.calls_counts.proofs.Stepping.{turn, filled_into, forced_into, returned_into, keeps_or}
-use Rattle.calls_counts.proofs.Stepping.{if_ok}
 use Rattle.calls_counts.proofs.Skipping.{skips_same, skips_longer}
 use Rattle.calls_counts.specs.declared.scan.Scan.{Scan}
 use Rattle.std.proofs.lemmas.Bool.{MatchBool-at_true, MatchBool-at_false}
+use Rattle.std.proofs.lemmas.Result.{IfOk-weaker}
 use Rattle.calls_counts.proofs.scan.respond.Goals as goal
 
 pub returns-in_ok-push : goal.returns-in_ok-push
 returns-in_ok-push c = λ past history keeps.
     (let s = c.args.scan.now in
     let u = c.remove-u.result in
-    let call = completion c.args.event.at c.args.reply u.call in
+    let call = c.complete-call.result in
     let t = turn c.args.start past c.args.event c.args.reply s.begun s.slots.items s.pending.items
     c.remove-u.new.self.items s.reads.items c.in-Some.i u c.requires
-    (subst (λ us. IsCallAt us c.args.event.worker c.in-Some.i) c.deref.ensures.value
+    (subst (λ us. IsNotedOf us c.args.event.worker c.in-Some.i) c.deref.ensures.value
     c.in-Some.ensures) c.remove-u.ensures.value c.remove-u.ensures.items history keeps.holds in
     let f = c.fill.ensures (skips_same s.slots.items s.next.items c.grow.new.next.items
     c.in_ok-grow.ensures.same keeps.skips) in
@@ -30,7 +33,9 @@ returns-in_ok-push c = λ past history keeps.
       holds = forced_into c.args.start past c.args.event c.args.reply s.begun s.slots.items
           s.pending.items c.remove-u.new.self.items s.reads.items c.in-Some.i u t keeps.holds
           c.fill.new.slots.items c.push.new.self.items (sym c.is_advance.ensures
-          ∙ c.if-not-is_advance.false) none.1 none.0 c.in_ok-push.ensures.items;
+          ∙ c.if-not-is_advance.false) none.1 none.0
+          (c.in_ok-push.ensures.items ∙ ap (λ z. c.fill.new.slots.items
+          ++ slot_of_call c.args.event.at z ∷ []) c.complete-call.ensures);
       skips = skips_longer c.fill.new.slots.items c.push.new.self.items _ c.fill.new.next.items
           c.in_ok-push.ensures.items f.0;
     })
@@ -39,10 +44,10 @@ pub returns-else-not-fill : goal.returns-else-not-fill
 returns-else-not-fill c = λ past history keeps.
     (let s = c.args.scan.now in
     let u = c.remove-u.result in
-    let call = completion c.args.event.at c.args.reply u.call in
+    let call = c.complete-call.result in
     let t = turn c.args.start past c.args.event c.args.reply s.begun s.slots.items s.pending.items
     c.remove-u.new.self.items s.reads.items c.in-Some.i u c.requires
-    (subst (λ us. IsCallAt us c.args.event.worker c.in-Some.i) c.deref.ensures.value
+    (subst (λ us. IsNotedOf us c.args.event.worker c.in-Some.i) c.deref.ensures.value
     c.in-Some.ensures) c.remove-u.ensures.value c.remove-u.ensures.items history keeps.holds in
     let f = c.fill.ensures (skips_same s.slots.items s.next.items c.grow.new.next.items
     c.in_ok-grow.ensures.same keeps.skips) in
@@ -50,9 +55,10 @@ returns-else-not-fill c = λ past history keeps.
       holds = filled_into c.args.start past c.args.event c.args.reply s.begun s.slots.items
           s.pending.items c.remove-u.new.self.items s.reads.items c.in-Some.i u t keeps.holds
           c.fill.new.slots.items (sym c.is_advance.ensures ∙ c.if-not-is_advance.false)
+          (subst (IsFilled s.slots.items c.fill.new.slots.items u.noted) c.complete-call.ensures
           (MatchBool-at_true (IsFilled s.slots.items c.fill.new.slots.items u.noted call)
           ((c.fill.new.slots.items ≡ s.slots.items) × NoneFree s.slots.items u.noted)
-          c.if-not-fill.false f.1);
+          c.if-not-fill.false f.1));
       skips = f.0;
     })
 
@@ -70,21 +76,20 @@ returns-then-not-is_advance c =
           c.remove-u.new.self;
       reads = c.observe.new.reads;
     } in
-    let P : Option Fault → Type 0 = λ f.
-    is_advance u.call.op ≡ false → Suits u.call.op r → u.noted ≤ length s.slots.items
-    → MatchOption f (IsObserved c.args.start s.begun u.noted (completion x.at r u.call)
-    s.slots.items c.observe.new.slots.items s.reads.items c.observe.new.reads.items)
-    (IsRefused c.args.start s.begun u.noted (completion x.at r u.call) s.slots.items
-    s.reads.items) in
-    if_ok P (TakesIn c.args.start s new x) c.observe.result
+    let P : Call → Option Fault → Type 0 = λ z f.
+    is_advance z.op ≡ false → Suits z.op z.reply → u.noted ≤ length s.slots.items
+    → MatchOption f (IsObserved c.args.start s.begun u.noted z s.slots.items
+    c.observe.new.slots.items s.reads.items c.observe.new.reads.items)
+    (IsRefused c.args.start s.begun u.noted z s.slots.items s.reads.items) in
+    IfOk-weaker c.observe.result (P (completion x.at r u.call)) (TakesIn c.args.start s new x)
     (λ f returned past history keeps.
     (let t = turn c.args.start past x r s.begun s.slots.items s.pending.items
     c.remove-u.new.self.items s.reads.items c.in-Some.i u c.requires
-    (subst (λ us. IsCallAt us x.worker c.in-Some.i) c.deref.ensures.value c.in-Some.ensures)
+    (subst (λ us. IsNotedOf us x.worker c.in-Some.i) c.deref.ensures.value c.in-Some.ensures)
     c.remove-u.ensures.value c.remove-u.ensures.items history keeps.holds in
     keeps_or c.args.start past x new f
     (returned_into c.args.start past x r s.begun s.slots.items s.pending.items
     c.remove-u.new.self.items s.reads.items c.in-Some.i u t keeps.holds
     c.observe.new.slots.items c.observe.new.reads.items s.next.items f
     (sym c.is_advance.ensures ∙ c.if-not-is_advance.true) keeps.skips returned)))
-    c.observe.ensures
+    (subst (λ z. IfOk c.observe.result (P z)) c.complete-call.ensures c.observe.ensures)

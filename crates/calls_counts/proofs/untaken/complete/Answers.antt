@@ -1,8 +1,8 @@
 -- The loop over the pending calls.
 use Rattle.std.proofs.Common.{List, drop, ℕ, sym, ap, ◌∙◌, subst, Vec, Global}
 use Rattle.std.proofs.lemmas.List.{take_all, drop_all}
+use Rattle.calls_core.specs.declared.pending.NotedCall.{NotedCall}
 use Rattle.calls_counts.specs.declared.state.Slot.{Slot}
-use Rattle.calls_counts.specs.declared.state.NotedCall.{NotedCall}
 use Rattle.calls_counts.specs.Scanning.{IsCompleting}
 use Rattle.calls_counts.proofs.Completing.{completing_none, moves_fill, moves_past}
 use Rattle.calls_counts.proofs.untaken.complete.Goals as goal
@@ -27,7 +27,8 @@ loop-u-preserved c =
           moves_fill old c.args.next.now.items c.args.pending.now c.args.end n.slots.items
           n.next.items new next n.u-index _ c.loop-u-test.true n.invariant
           w.fill.new.slots.items w.fill.new.next.items w.fill.result
-          (sym c.is_advance.ensures ∙ w.if-is_advance.true) w.fill.ensures
+          (sym c.is_advance.ensures ∙ w.if-is_advance.true)
+          w.complete.result w.complete.ensures w.fill.ensures
           (ap (λ (v : Vec Slot Global). v.items) w.slots-is)
           (ap (λ (v : Vec ℕ Global). v.items) w.next-is)
       | else-is_advance w ↦

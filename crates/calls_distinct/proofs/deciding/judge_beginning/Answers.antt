@@ -6,9 +6,10 @@ use Rattle.calls_core.specs.declared.history.Event.{Event}
 use Rattle.calls_core.specs.Histories.{clock}
 use Rattle.calls_core.specs.Beginnings.{past_at}
 use Rattle.calls_core.specs.declared.history.Call.{Call}
+use Rattle.calls_core.proofs.Beginnings.{clock_at}
 use Rattle.calls_distinct.specs.Groups.{AreGrouped}
 use Rattle.calls_distinct.specs.Verdicts.{IsVerdict, calls_of_history}
-use Rattle.calls_distinct.proofs.Earlier.{distinct_at, store_at, clock_at, clock_is}
+use Rattle.calls_distinct.proofs.Earlier.{distinct_at, store_at, clock_is}
 use Rattle.calls_distinct.proofs.deciding.judge_beginning.Goals as goal
 
 -- the default beyond the end of a list
@@ -22,7 +23,7 @@ overflow_add-end c =
     let some = c.requires.some in
     let within = c.requires.within in
     let room = c.requires.room in
-    let le = clock_at n events c.requires.store in
+    let le = clock_at c.requires.store.0 n events c.requires.store.2 in
     let is = clock_is (n - 1) n events none (omega arith) (omega arith) in
     omega (arith, is, ap (λ (x : Event). x.at) (c.at.ensures none))
 

@@ -5,12 +5,12 @@ use Rattle.calls_core.specs.declared.history.Action.TheVariants.{Invoke}
 use Rattle.calls_core.specs.declared.history.Op.TheVariants.{Advance}
 use Rattle.calls_core.specs.declared.history.Kind.TheVariants.{Semaphores}
 use Rattle.calls_core.specs.Beginnings.{past_at}
-use Rattle.calls_core.specs.Outcomes.{HasOrderOf, IsOrderOf}
+use Rattle.calls_core.specs.Outcomes.{IsOrderOf}
 use Rattle.calls_core.specs.Histories.{clock}
+use Rattle.calls_core.proofs.Beginnings.{past_next, history_next}
 use Rattle.calls_semaphores.specs.Keeping.{Holds, IsStep, Steps}
 use Rattle.calls_semaphores.proofs.Scanning.{scan_start}
-use Rattle.calls_semaphores.proofs.Deciding.{has_order, kept_start}
-use Rattle.calls_semaphores.proofs.Finding.{next, next_history, next_clock, orders_more, held_whole}
+use Rattle.calls_semaphores.proofs.Finding.{next_clock, held_whole}
 use Rattle.calls_semaphores.proofs.Finding.{first_fault}
 use Rattle.calls_semaphores.proofs.scan.decide.Goals as goal
 
@@ -29,15 +29,14 @@ returns-in-Some c =
     (c.at-event.ensures no_event) c.in_ok-fault.ensures.step in
     let step : IsStep units (past_at l.i events) x c.event.new.self c.in_ok-fault.field-0 =
     steps units (past_at l.i events)
-    (next_history units events c.args.end c.requires.history c.requires.end l.i no_event
-    lt)
+    (history_next (Semaphores units) l.i events no_event lt c.requires.history)
     (subst (λ n. clock (x ∷ past_at l.i events) ≤ n) (sym l.invariant.end)
     (next_clock units events c.args.end c.requires.history c.requires.end l.i no_event
     lt)) l.invariant.holds in
-    first_fault units events c.args.end c.requires.history c.requires.end l.i no_event
-    c.in-Some.fault lt
+    first_fault units events c.args.end c.requires.history c.requires.end l.scan l.invariant.end
+    l.i no_event c.in-Some.fault lt
     (subst (IsStep units (past_at l.i events) x c.event.new.self) c.in-Some.is step)
-    l.invariant.before
+    l.invariant.holds
 
 pub returns : goal.returns
 returns c =
@@ -64,9 +63,6 @@ loop-i-init c =
       room = c.in_ok-scan.ensures.1.none;
       holds = scan_start units c.in_ok-scan.scan c.in_ok-scan.ensures.1 c.in_ok-scan.ensures.2
           c.in_ok-scan.ensures.3;
-      before = λ j le. (let first : 0 ≡ j = omega arith in
-          subst (λ n. HasOrderOf (Semaphores units) (past_at n c.args.events.now)) first
-          (has_order units (past_at 0 c.args.events.now) (λ t k. (_, kept_start units t))));
     }
 
 pub loop-i-preserved : goal.loop-i-preserved
@@ -81,21 +77,17 @@ loop-i-preserved c =
     (c.at-event.ensures no_event) c.in_ok-fault.ensures.step in
     let step : IsStep units (past_at l.i events) x c.event.new.self c.in_ok-fault.field-0 =
     steps units (past_at l.i events)
-    (next_history units events c.args.end c.requires.history c.requires.end l.i no_event
-    lt)
+    (history_next (Semaphores units) l.i events no_event lt c.requires.history)
     (subst (λ n. clock (x ∷ past_at l.i events) ≤ n) (sym l.invariant.end)
     (next_clock units events c.args.end c.requires.history c.requires.end l.i no_event
     lt)) l.invariant.holds in
     let holds : Holds units (past_at (l.i + 1) events) c.event.new.self =
-    subst (λ past. Holds units past c.event.new.self) (sym
-    (next units events c.args.end c.requires.history c.requires.end l.i no_event
-    lt)) (subst (IsStep units (past_at l.i events) x c.event.new.self)
+    subst (λ past. Holds units past c.event.new.self) (sym (past_next events l.i no_event lt))
+    (subst (IsStep units (past_at l.i events) x c.event.new.self)
     c.in_default.is step) in
     let end : c.event.new.self.end ≡ c.args.end = c.event.ensures.end ∙ l.invariant.end in
     record {
       end = end;
       room = c.event.ensures.grows l.i l.invariant.room;
       holds = holds;
-      before = orders_more units events c.args.end c.requires.history c.requires.end
-          c.event.new.self end l.i holds l.invariant.before;
     }

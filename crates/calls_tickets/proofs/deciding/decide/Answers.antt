@@ -3,10 +3,10 @@ use Rattle.calls_core.specs.declared.history.Action.TheVariants.{Invoke}
 use Rattle.calls_core.specs.declared.history.Op.TheVariants.{Advance}
 use Rattle.calls_core.specs.declared.history.Event.{Event}
 use Rattle.calls_core.specs.Beginnings.{past_at}
+use Rattle.calls_core.specs.Pending.{noted_calls}
 use Rattle.calls_tickets.specs.declared.table.Decision.TheVariants.{Order, Faulty}
 use Rattle.calls_tickets.specs.kept.Recording.{IsFollowed, TakesIn}
 use Rattle.calls_tickets.specs.kept.Tables.{AreTickets, IsDecided}
-use Rattle.calls_tickets.specs.kept.Watching.{calls_in}
 use Rattle.calls_tickets.proofs.Outcomes.{tickets_gathered, decided_of, not_ordered, not_faulty}
 use Rattle.calls_tickets.proofs.Outcomes.{history_here, first_fault, records_next, records_all}
 use Rattle.calls_tickets.proofs.deciding.decide.Goals as goal
@@ -25,10 +25,10 @@ decide-requires c =
     c.in_ok-event.ensures in
     let h = history_here events l.i no_event lt c.requires.history in
     let f = subst (IsFollowed (get_or events l.i no_event ∷ past_at l.i events) c.event.new.self)
-    c.if-not-branch.true (took (past_at l.i events) h l.invariant.0) in
+    c.if-not-branch.true (took (past_at l.i events) h l.invariant) in
     record {
       tickets = subst (λ (x : Event). AreTickets (reverse c.event.new.self.done.items)
-          (calls_in c.event.new.self.pending.items) x.at) (sym here)
+          (noted_calls c.event.new.self.pending.items) x.at) (sym here)
           (tickets_gathered (get_or events l.i no_event ∷ past_at l.i events)
           c.event.new.self (get_or events l.i no_event).at h (omega arith) f.gathered);
     }
@@ -45,12 +45,12 @@ unreachable-requires c =
     let past = get_or events l.i no_event ∷ past_at l.i events in
     let h = history_here events l.i no_event lt c.requires.history in
     let f = subst (IsFollowed past c.event.new.self) c.if-not-branch.true
-    (took (past_at l.i events) h l.invariant.0) in
+    (took (past_at l.i events) h l.invariant) in
     not_ordered past (get_or events l.i no_event).at c.in-Order.field-0 h
     (omega arith) c.event.new.self f
     (decided_of past c.event.new.self (get_or events l.i no_event).at c.in_ok-decide.field-0
     (Order c.in-Order.field-0) f.gathered c.in-Order.is (subst (λ (x : Event). IsDecided
-    (reverse c.event.new.self.done.items) (calls_in c.event.new.self.pending.items) x.at
+    (reverse c.event.new.self.done.items) (noted_calls c.event.new.self.pending.items) x.at
     c.in_ok-decide.field-0) here c.in_ok-decide.ensures))
 
 pub returns-then-not-branch : goal.returns-then-not-branch
@@ -65,12 +65,12 @@ returns-then-not-branch c =
     let past = get_or events l.i no_event ∷ past_at l.i events in
     let h = history_here events l.i no_event lt c.requires.history in
     let f = subst (IsFollowed past c.event.new.self) c.if-not-branch.true
-    (took (past_at l.i events) h l.invariant.0) in
+    (took (past_at l.i events) h l.invariant) in
     first_fault events l.i no_event lt c.requires.history l.calls c.in-Faulty.fault
-    l.invariant.0 l.invariant.1
+    l.invariant
     (decided_of past c.event.new.self (get_or events l.i no_event).at c.in_ok-decide.field-0
     (Faulty c.in-Faulty.fault) f.gathered c.in-Faulty.is (subst (λ (x : Event). IsDecided
-    (reverse c.event.new.self.done.items) (calls_in c.event.new.self.pending.items) x.at
+    (reverse c.event.new.self.done.items) (noted_calls c.event.new.self.pending.items) x.at
     c.in_ok-decide.field-0) here c.in_ok-decide.ensures))
 
 pub loop-i-preserved : goal.loop-i-preserved
@@ -85,16 +85,15 @@ loop-i-preserved c =
     let past = get_or events l.i no_event ∷ past_at l.i events in
     let h = history_here events l.i no_event lt c.requires.history in
     let f = subst (IsFollowed past c.event.new.self) c.if-not-branch.false
-    (took (past_at l.i events) h l.invariant.0) in
-    records_next events l.i no_event lt c.requires.history l.calls c.event.new.self
-    l.invariant.0 l.invariant.1 f
+    (took (past_at l.i events) h l.invariant) in
+    records_next events l.i no_event lt c.requires.history c.event.new.self f
 
 pub decide-requires-2 : goal.decide-requires-2
 decide-requires-2 c =
     let l = c.loop-i in
     let events = c.args.events.now in
     let r = records_all events l.i l.calls
-    (omega (arith, c.loop-i-test.false, c.len-i-end.ensures)) l.invariant.0 in
+    (omega (arith, c.loop-i-test.false, c.len-i-end.ensures)) l.invariant in
     record {
       tickets = tickets_gathered (reverse events) l.calls c.args.end c.requires.history
           (omega (arith, c.requires.ends)) r.gathered;
@@ -105,7 +104,7 @@ unreachable-requires-in-Faulty-2 c =
     let l = c.loop-i in
     let events = c.args.events.now in
     let r = records_all events l.i l.calls
-    (omega (arith, c.loop-i-test.false, c.len-i-end.ensures)) l.invariant.0 in
+    (omega (arith, c.loop-i-test.false, c.len-i-end.ensures)) l.invariant in
     not_faulty (reverse events) l.calls c.in-Faulty-2.field-0 c.requires.history r
     (decided_of (reverse events) l.calls c.args.end c.in_ok-order.field-0
     (Faulty c.in-Faulty-2.field-0) r.gathered c.in-Faulty-2.is c.in_ok-order.ensures)

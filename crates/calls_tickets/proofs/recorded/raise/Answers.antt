@@ -1,6 +1,6 @@
 use Rattle.std.proofs.Common.{◌≡◌, ◌++◌, ◌-◌, ap, ◌∙◌, arith}
-use Rattle.calls_tickets.specs.kept.Watching.{places}
-use Rattle.calls_tickets.proofs.Numbering.{raised_more}
+use Rattle.std.specs.List.{range_with_len as places}
+use Rattle.calls_core.proofs.Ranges.{raised_more}
 use Rattle.calls_tickets.proofs.recorded.raise.Goals as goal
 
 pub loop-i-preserved : goal.loop-i-preserved

@@ -1,5 +1,5 @@
 use Rattle.std.proofs.Common.{◌≡◌, ◌≤◌, ◌++◌, ◌-◌, max}
-use Rattle.calls_tickets.specs.kept.Watching.{places}
+use Rattle.std.specs.List.{range_with_len as places}
 use Rattle.calls_tickets.proofs.recorded.raise.Given as goal
 
 abbrev pub invariant-loop-i : goal.invariant-loop-i

@@ -1,7 +1,6 @@
 use Rattle.std.proofs.Common.{arith, subst, reverse}
 use Rattle.calls_verdict.specs.Verdicts.{IsDecision}
-use Rattle.calls_verdict.proofs.Turns.{turn_kind, turn_part, turn_history, turn_end}
-use Rattle.calls_verdict.proofs.Turns.{turn_added}
+use Rattle.calls_verdict.proofs.Turns.{turn_kind, turn_part, turn_history, turn_end, turn_added}
 use Rattle.calls_verdict.proofs.deciding.decide.Goals as goal
 
 pub end_of-end-requires : goal.end_of-end-requires

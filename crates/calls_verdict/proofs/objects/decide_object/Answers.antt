@@ -1,8 +1,16 @@
-use Rattle.std.proofs.Common.{reverse, subst, sym, IfOk}
+use Rattle.std.proofs.Common.{reverse, subst, sym, IfOk, arith}
+use Rattle.std.proofs.lemmas.List.{length-reverse}
 use Rattle.calls_core.specs.declared.history.Kind.{Kind}
 use Rattle.calls_core.specs.Histories.{IsHistoryOf}
+use Rattle.calls_core.specs.declared.history.Kind.TheVariants.{Semaphores}
+use Rattle.calls_counts.specs.Outcomes as counts
+use Rattle.calls_tickets.specs.Outcomes as tickets
+use Rattle.calls_semaphores.specs.Outcomes as semaphores
+use Rattle.calls_verdict.specs.declared.verdict.Fault.TheVariants.{Count, Ticket, Units}
+use Rattle.calls_verdict.specs.declared.verdict.Decision.TheVariants.{Refused}
 use Rattle.calls_verdict.specs.Verdicts.{IsDecision}
 use Rattle.calls_verdict.proofs.Databases.{database_decision}
+use Rattle.calls_verdict.proofs.Untils.{history_length}
 use Rattle.calls_serial.proofs.Databases.{history as cell_history}
 use Rattle.calls_verdict.proofs.objects.decide_object.Goals as goal
 
@@ -19,3 +27,33 @@ returns-in-Database c =
     (IsDecision k c.args.events.now c.args.end)) (sym c.in-Database.is)
     (database_decision c.in-Database.field-0 c.args.events.now c.args.end
     c.decide_cell-in-Database.result c.decide_cell-in-Database.ensures)
+
+pub decide-requires-in-Semaphores-clause-room : goal.decide-requires-in-Semaphores-clause-room
+decide-requires-in-Semaphores-clause-room c =
+    omega (
+      arith,
+      length-reverse c.args.events.now,
+      history_length c.args.kind.now (reverse c.args.events.now) c.requires.history,
+      c.requires.end,
+    )
+
+pub returns-in-Refused : goal.returns-in-Refused
+returns-in-Refused c =
+    subst (λ (k : Kind). IsDecision k c.args.events.now c.args.end
+    (Refused c.in-Refused.i (Count c.in-Refused.fault))) (sym c.in-Eventcount.is)
+    (subst (counts.IsOutcome c.in-Eventcount.start c.args.events.now c.args.end) c.in-Refused.is
+    c.in_ok-calls-in-Eventcount.ensures)
+
+pub returns-in-Refused-2 : goal.returns-in-Refused-2
+returns-in-Refused-2 c =
+    subst (λ (k : Kind). IsDecision k c.args.events.now c.args.end
+    (Refused c.in-Refused-2.i (Ticket c.in-Refused-2.fault))) (sym c.in-Sequencer.is)
+    (subst (tickets.IsOutcome c.args.events.now c.args.end) c.in-Refused-2.is
+    c.in_ok-calls-in-Sequencer.ensures)
+
+pub returns-in-Refused-3 : goal.returns-in-Refused-3
+returns-in-Refused-3 c =
+    subst (λ (k : Kind). IsDecision k c.args.events.now c.args.end
+    (Refused c.in-Refused-3.i (Units c.in-Refused-3.fault))) (sym c.in-Semaphores.is)
+    (subst (semaphores.IsOutcome (Semaphores c.in-Semaphores.units) c.args.events.now c.args.end) c.in-Refused-3.is
+    c.in_ok-calls-in-Semaphores.ensures)

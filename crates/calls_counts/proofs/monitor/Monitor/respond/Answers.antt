@@ -2,10 +2,10 @@
 use Rattle.std.proofs.Common.{◌≡◌, ◌+◌, ◌∷◌, ◌≤◌, false, refl, sym, ◌∙◌, subst, length}
 use Rattle.calls_core.specs.Histories.{completion}
 use Rattle.calls_counts.specs.Faults.{is_advance}
-use Rattle.calls_counts.specs.Scanning.{IsCallAt}
 use Rattle.calls_counts.specs.Watching.{AllBelow, IsFirstPlace, IsJudged}
 use Rattle.calls_counts.specs.Monitors.{Verdict}
 use Rattle.calls_core.specs.declared.history.TheConstants.{WORKERS}
+use Rattle.calls_core.specs.Pending.{IsNotedOf}
 use Rattle.calls_counts.specs.declared.monitor.Monitor.{Monitor}
 use Rattle.calls_counts.proofs.Watching.{watched_filled, watched_forced, watched_observed}
 use Rattle.calls_counts.proofs.Watching.{watched_refused, taken_by, by_result}
@@ -25,7 +25,7 @@ returns-in-Some-place_from c = λ past history w.
     }) refl history
     (watched_filled s.start past c.args.event c.args.reply s.begun s.total s.free.items
     s.pending.items c.remove-u.new.self.items c.in-Some.i u c.requires.action
-    (subst (λ us. IsCallAt us c.args.event.worker c.in-Some.i) c.as_slice.ensures.value
+    (subst (λ us. IsNotedOf us c.args.event.worker c.in-Some.i) c.as_slice.ensures.value
     c.in-Some.ensures) c.remove-u.ensures.value c.remove-u.ensures.items history w
     c.in-Some-place_from.k c.remove.new.self.items (sym c.is_advance.ensures
     ∙ c.if-not-is_advance.false)
@@ -46,7 +46,7 @@ returns-in-None c = λ past history w.
     }) refl history
     (watched_forced s.start past c.args.event c.args.reply s.begun s.total s.free.items
     s.pending.items c.remove-u.new.self.items c.in-Some.i u c.requires.action
-    (subst (λ us. IsCallAt us c.args.event.worker c.in-Some.i) c.as_slice.ensures.value
+    (subst (λ us. IsNotedOf us c.args.event.worker c.in-Some.i) c.as_slice.ensures.value
     c.in-Some.ensures) c.remove-u.ensures.value c.remove-u.ensures.items history w
     (s.total + 1) (sym c.is_advance.ensures ∙ c.if-not-is_advance.false)
     (subst (λ fs. AllBelow fs u.noted (length fs)) c.as_slice-2.ensures.value c.in-None.ensures)
@@ -68,8 +68,8 @@ returns-then-not-is_advance c = λ past history w.
     } in
     let other : is_advance u.call.op ≡ false = sym c.is_advance.ensures ∙ c.if-not-is_advance.true
     in
-    let at : IsCallAt s.pending.items x.worker c.in-Some.i =
-    subst (λ us. IsCallAt us x.worker c.in-Some.i) c.as_slice.ensures.value c.in-Some.ensures in
+    let at : IsNotedOf s.pending.items x.worker c.in-Some.i =
+    subst (λ us. IsNotedOf us x.worker c.in-Some.i) c.as_slice.ensures.value c.in-Some.ensures in
     by_result (IsJudged s.start s.begun s.total c.observe.new.total s.free.items
     c.observe.new.free.items u.noted call) (Verdict s.start past x new)
     (λ o possible.
@@ -83,4 +83,6 @@ returns-then-not-is_advance c = λ past history w.
     watched_refused s.start past x r s.begun s.total s.free.items s.pending.items
     c.remove-u.new.self.items c.in-Some.i u c.requires.action at c.remove-u.ensures.value
     c.remove-u.ensures.items history w
-    f other impossible) c.observe.result c.observe.ensures)
+    f other impossible) c.observe.result
+    (subst (λ z. IsJudged s.start s.begun s.total c.observe.new.total s.free.items
+    c.observe.new.free.items u.noted z c.observe.result) c.complete-call.ensures c.observe.ensures))

@@ -1,8 +1,8 @@
-use Rattle.std.proofs.Common.{◌≡◌, None, Some, subst, sym, arith, ◌∙◌, ap, length, ◌≤◌}
-use Rattle.std.specs.List.{position}
+use Rattle.std.proofs.Common.{◌≡◌, None, subst, sym, arith, ◌∙◌, ap, length, ◌≤◌, ◌++◌, ◌∷◌, []}
 use Rattle.std.proofs.lemmas.Bool.{eqb-false}
 use Rattle.calls_core.specs.declared.history.TheConstants.{WORKERS}
-use Rattle.calls_monitor.proofs.Entries.{is_his}
+use Rattle.calls_core.specs.Pending.{IsPendingOf}
+use Rattle.calls_core.specs.Histories.{pending_of}
 use Rattle.calls_monitor.proofs.Judging.{below_by, invoked, nobody, responded}
 use Rattle.calls_monitor.proofs.monitor.Monitor.event.Goals as goal
 
@@ -11,8 +11,8 @@ returns-in_default c = λ kinds past h w.
     absurd (nobody kinds past c.args.event h (omega arith) c.args.self.now w
     (subst (λ ps. length ps ≤ WORKERS) c.as_slice.ensures.value c.as_slice.ensures.fits)
     c.in-Respond._reply c.in-Respond.is
-    (subst (λ ps. position (is_his c.args.event.worker) ps ≡ None) c.as_slice.ensures.value
-    (sym c.in_default.ensures)))
+    (subst (λ ps. pending_of c.args.event.worker ps ≡ None) c.as_slice.ensures.value
+    c.in_default.ensures))
 
 pub returns-else-is_full : goal.returns-else-is_full
 returns-else-is_full c = λ kinds past h w.
@@ -21,10 +21,11 @@ returns-else-is_full c = λ kinds past h w.
     eqb-false (length old.pending.items) WORKERS
     (sym c.if-is_full.ensures.value) in
     invoked kinds past c.args.event h (omega arith) old w (omega (arith, c.if-is_full.ensures.fits))
-    c.in-Invoke.object c.in-Invoke._op c.in-Invoke.is
+    c.in-Invoke.object c.in-Invoke.op c.in-Invoke.is
     (below_by (length old.pending.items) WORKERS c.if-is_full.ensures.fits apart) c.pass_to_object.new.self
     (ap (λ ps. ps.items) c.pass_to_object.ensures.pending
-    ∙ c.push.ensures.items) c.pass_to_object.result
+    ∙ c.push.ensures.items ∙ ap (λ o. old.pending.items ++ o ∷ []) c.new.ensures)
+    c.pass_to_object.result
     c.pass_to_object.ensures.passed)
 
 pub returns-in-Some : goal.returns-in-Some
@@ -33,8 +34,8 @@ returns-in-Some c = λ kinds past h w.
     responded kinds past c.args.event h (omega arith) old w
     (subst (λ ps. length ps ≤ WORKERS) c.as_slice.ensures.value c.as_slice.ensures.fits)
     c.in-Respond._reply c.in-Respond.is c.in-Some.i c.remove-object.result
-    (subst (λ ps. position (is_his c.args.event.worker) ps ≡ Some c.in-Some.i)
-    c.as_slice.ensures.value (sym c.in-Some.ensures)) c.remove-object.ensures.value
+    (subst (λ ps. IsPendingOf ps c.args.event.worker c.in-Some.i) c.as_slice.ensures.value
+    c.in-Some.ensures) c.remove-object.ensures.value
     c.pass_to_object-in-Respond.new.self
     (ap (λ ps. ps.items) c.pass_to_object-in-Respond.ensures.pending
     ∙ c.remove-object.ensures.items)

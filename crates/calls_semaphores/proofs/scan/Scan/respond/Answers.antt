@@ -1,31 +1,29 @@
 use Rattle.std.proofs.Common.{◌≡◌, ◌++◌, ◌∷◌, [], ◌∙◌, ap, sym, subst, set, refl, Some, None, true}
 use Rattle.std.proofs.Common.{false, arith}
-use Rattle.std.specs.List.{position}
 use Rattle.std.specs.Vec.{with_item}
 use Rattle.calls_core.specs.declared.history.Call.{Call}
-use Rattle.calls_semaphores.specs.declared.scan.PendingUnits.{PendingUnits}
+use Rattle.calls_core.specs.Pending.{noted_calls, IsNotedOf}
+use Rattle.calls_core.specs.Histories.{pending_of}
 use Rattle.calls_semaphores.specs.declared.scan.Scan.{Scan}
 use Rattle.calls_semaphores.specs.Monitors.{IsRefusedAt}
 use Rattle.calls_semaphores.specs.Keeping.{is_v, TakenAs}
-use Rattle.calls_semaphores.proofs.Scanning.{is_his, IsAt, at_position, scan_nobody, scan_refused}
+use Rattle.calls_semaphores.proofs.Scanning.{at_noted, scan_nobody, scan_refused}
 use Rattle.calls_semaphores.proofs.Scanning.{scan_other, scan_v, placed_within}
 use Rattle.calls_semaphores.proofs.scan.Scan.respond.Goals as goal
 
 pub returns-in_default-clause-step : goal.returns-in_default-clause-step
 returns-in_default-clause-step c = λ is units past h le k.
     absurd (scan_nobody units c.args.event past h c.args.self.now k c.args.reply is
-    (subst (λ os. position (is_his (λ (o : PendingUnits). o.call) c.args.event.worker) os ≡ None)
-    c.deref.ensures.value (sym c.in_default.ensures)))
+    (subst (λ us. pending_of c.args.event.worker (noted_calls us) ≡ None) c.deref.ensures.value
+    c.in_default.ensures))
 
 pub returns-in-Some-take-clause-step : goal.returns-in-Some-take-clause-step
 returns-in-Some-take-clause-step c = λ is units past h le k.
     (let s = c.args.self.now in
     let o = c.remove-open.result in
-    let at : IsAt (λ (p : PendingUnits). p.call) c.args.event.worker s.pending.items c.in-Some.k o =
-    at_position (λ (p : PendingUnits). p.call) c.args.event.worker s.pending.items c.in-Some.k o
-    (subst (λ os. position (is_his (λ (p : PendingUnits). p.call) c.args.event.worker) os
-    ≡ Some c.in-Some.k) c.deref.ensures.value (sym c.in-Some.ensures))
-    c.remove-open.ensures.value in
+    let at = at_noted s.pending.items c.args.event.worker c.in-Some.k o
+    (subst (λ us. IsNotedOf us c.args.event.worker c.in-Some.k) c.deref.ensures.value
+    c.in-Some.ensures) c.remove-open.ensures.value in
     subst (λ (z : Call). IsRefusedAt units past c.args.event (record {
       call = z;
       index =
@@ -40,11 +38,9 @@ pub returns-in_ok-push-clause-step : goal.returns-in_ok-push-clause-step
 returns-in_ok-push-clause-step c = λ is units past h le k.
     (let s = c.args.self.now in
     let o = c.remove-open.result in
-    let at : IsAt (λ (p : PendingUnits). p.call) c.args.event.worker s.pending.items c.in-Some.k o =
-    at_position (λ (p : PendingUnits). p.call) c.args.event.worker s.pending.items c.in-Some.k o
-    (subst (λ os. position (is_his (λ (p : PendingUnits). p.call) c.args.event.worker) os
-    ≡ Some c.in-Some.k) c.deref.ensures.value (sym c.in-Some.ensures))
-    c.remove-open.ensures.value in
+    let at = at_noted s.pending.items c.args.event.worker c.in-Some.k o
+    (subst (λ us. IsNotedOf us c.args.event.worker c.in-Some.k) c.deref.ensures.value
+    c.in-Some.ensures) c.remove-open.ensures.value in
     let new : Scan = record {
       bank = c.take.new.self;
       pending = c.remove-open.new.self;
@@ -65,16 +61,14 @@ pub returns-then-open-len-clause-step : goal.returns-then-open-len-clause-step
 returns-then-open-len-clause-step c = λ is units past h le k.
     (let s = c.args.self.now in
     let o = c.remove-open.result in
-    let at : IsAt (λ (p : PendingUnits). p.call) c.args.event.worker s.pending.items c.in-Some.k o =
-    at_position (λ (p : PendingUnits). p.call) c.args.event.worker s.pending.items c.in-Some.k o
-    (subst (λ os. position (is_his (λ (p : PendingUnits). p.call) c.args.event.worker) os
-    ≡ Some c.in-Some.k) c.deref.ensures.value (sym c.in-Some.ensures))
-    c.remove-open.ensures.value in
+    let at = at_noted s.pending.items c.args.event.worker c.in-Some.k o
+    (subst (λ us. IsNotedOf us c.args.event.worker c.in-Some.k) c.deref.ensures.value
+    c.in-Some.ensures) c.remove-open.ensures.value in
     let new : Scan = record {
       bank = c.take.new.self;
       pending = c.remove-open.new.self;
       order =
-          with_item s.order o.place c.complete-call.result;
+          with_item s.order o.noted c.complete-call.result;
       end = s.end;
     } in
     scan_v units c.args.event past h s new le k refl c.args.reply is c.in-Some.k o at
@@ -83,17 +77,15 @@ returns-then-open-len-clause-step c = λ is units past h le k.
     c.complete-call.ensures c.in_default-take.ensures.value)
     (subst (λ (z : Call). is_v z.op ≡ true) c.complete-call.ensures
     (sym c.is_v.ensures ∙ c.if-not-is_v.false))
-    (ap (λ (z : Call). set s.order.items o.place z) c.complete-call.ensures))
+    (ap (λ (z : Call). set s.order.items o.noted z) c.complete-call.ensures))
 
 pub returns-else-open-len-clause-step : goal.returns-else-open-len-clause-step
 returns-else-open-len-clause-step c = λ is units past h le k.
     (let s = c.args.self.now in
     let o = c.remove-open.result in
-    let at : IsAt (λ (p : PendingUnits). p.call) c.args.event.worker s.pending.items c.in-Some.k o =
-    at_position (λ (p : PendingUnits). p.call) c.args.event.worker s.pending.items c.in-Some.k o
-    (subst (λ os. position (is_his (λ (p : PendingUnits). p.call) c.args.event.worker) os
-    ≡ Some c.in-Some.k) c.deref.ensures.value (sym c.in-Some.ensures))
-    c.remove-open.ensures.value in
+    let at = at_noted s.pending.items c.args.event.worker c.in-Some.k o
+    (subst (λ us. IsNotedOf us c.args.event.worker c.in-Some.k) c.deref.ensures.value
+    c.in-Some.ensures) c.remove-open.ensures.value in
     let within = placed_within units c.args.event past h s k c.args.reply is c.in-Some.k o at
     (subst (λ (z : Call). is_v z.op ≡ true) c.complete-call.ensures
     (sym c.is_v.ensures ∙ c.if-not-is_v.false)) in

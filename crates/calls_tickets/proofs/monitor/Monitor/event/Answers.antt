@@ -1,6 +1,9 @@
-use Rattle.std.proofs.Common.{◌≡◌, ◌∷◌, true, false, sym, ◌∙◌, arith, subst, length}
+use Rattle.std.proofs.Common.{◌≡◌, [], ◌∷◌, ◌++◌, true, false, ap, sym, ◌∙◌, arith, subst}
+use Rattle.std.proofs.Common.{length}
+use Rattle.calls_core.specs.declared.history.PendingCall.{PendingCall}
+use Rattle.calls_core.specs.Pending.{IsNotedOf}
 use Rattle.calls_tickets.specs.Faults.{ticket_number}
-use Rattle.calls_tickets.specs.kept.Watching.{IsPendingAt, Watching}
+use Rattle.calls_tickets.specs.kept.Watching.{Watching}
 use Rattle.calls_tickets.proofs.Stepping.{invoked}
 use Rattle.calls_tickets.proofs.Answering.{goes_on, lacks, cannot, refusal, acceptance, taken_is}
 use Rattle.calls_tickets.proofs.Answering.{pairs_are}
@@ -16,7 +19,9 @@ returns-in-Invoke c = λ past history w.
           c.push.new.self;
     }) history
     (invoked past c.args.event c.in-Invoke.object c.in-Invoke.op s.top s.holes.items s.pending.items
-    c.push.new.self.items c.in-Invoke.is c.push.ensures.items history w))
+    c.push.new.self.items c.in-Invoke.is
+    (c.push.ensures.items ∙ ap (λ (o : PendingCall). s.pending.items
+    ++ record { call = o; noted = s.top } ∷ []) c.new-call.ensures) history w))
 
 pub returns-then-not-take : goal.returns-then-not-take
 returns-then-not-take c = λ past history w.
@@ -24,7 +29,7 @@ returns-then-not-take c = λ past history w.
     let u = c.remove-ticket.result in
     let rest = c.remove-ticket.new.self.items in
     let new = c.take.new.self in
-    let k = subst (λ us. IsPendingAt us c.args.event.worker c.in-Some.i) c.as_slice.ensures.value
+    let k = subst (λ us. IsNotedOf us c.args.event.worker c.in-Some.i) c.as_slice.ensures.value
     c.in-Some.ensures in
     refusal past c.args.event c.in-Respond.reply s.top s.holes.items s.pending.items rest
     c.in-Some.i u c.in-Respond.is k c.remove-ticket.ensures.value c.remove-ticket.ensures.items
@@ -43,7 +48,7 @@ returns-then-are_paired c = λ past history w.
     let u = c.remove-ticket.result in
     let rest = c.remove-ticket.new.self.items in
     let new = c.take.new.self in
-    let k = subst (λ us. IsPendingAt us c.args.event.worker c.in-Some.i) c.as_slice.ensures.value
+    let k = subst (λ us. IsNotedOf us c.args.event.worker c.in-Some.i) c.as_slice.ensures.value
     c.in-Some.ensures in
     let same : new.pending.items ≡ rest = c.take.ensures.pending in
     acceptance (c.args.event ∷ past) new history
@@ -65,7 +70,7 @@ returns-else-are_paired c = λ past history w.
     let u = c.remove-ticket.result in
     let rest = c.remove-ticket.new.self.items in
     let new = c.take.new.self in
-    let k = subst (λ us. IsPendingAt us c.args.event.worker c.in-Some.i) c.as_slice.ensures.value
+    let k = subst (λ us. IsNotedOf us c.args.event.worker c.in-Some.i) c.as_slice.ensures.value
     c.in-Some.ensures in
     let same : new.pending.items ≡ rest = c.take.ensures.pending in
     refusal past c.args.event c.in-Respond.reply s.top s.holes.items s.pending.items rest

@@ -1,7 +1,8 @@
-use Rattle.std.proofs.Common.{true, false, refl, ◌∙◌, arith, subst, length}
+use Rattle.std.proofs.Common.{[], ◌∷◌, ◌++◌, true, false, refl, ap, ◌∙◌, arith, subst, length}
+use Rattle.calls_core.specs.declared.history.PendingCall.{PendingCall}
 use Rattle.calls_core.specs.Histories.{completion}
+use Rattle.calls_core.specs.Pending.{IsNotedOf}
 use Rattle.calls_tickets.specs.Faults.{ticket_number}
-use Rattle.calls_tickets.specs.kept.Watching.{IsPendingAt}
 use Rattle.calls_tickets.proofs.Answering.{taken_is, pairs_are}
 use Rattle.calls_tickets.proofs.Gathering.{records_invoked, faulty, followed, done_more}
 use Rattle.calls_tickets.proofs.recorded.RecordedTickets.event.Goals as goal
@@ -15,7 +16,8 @@ returns-in_ok-push-in-Invoke c = λ past history r.
       holes = s.holes;
       pending = c.push.new.self;
     }) c.in-Invoke.is refl refl refl
-    c.in_ok-push-in-Invoke.ensures.items history r)
+    (c.in_ok-push-in-Invoke.ensures.items ∙ ap (λ (o : PendingCall). s.pending.items
+    ++ record { call = o; noted = s.top } ∷ []) c.new-call.ensures) history r)
 
 pub returns-then-not-branch : goal.returns-then-not-branch
 returns-then-not-branch c = λ past history r.
@@ -23,7 +25,7 @@ returns-then-not-branch c = λ past history r.
     let u = c.remove-ticket.result in
     let rest = c.remove-ticket.new.self.items in
     let new = c.take.new.self in
-    let k = subst (λ us. IsPendingAt us c.args.event.worker c.in-Some.i) c.deref.ensures.value
+    let k = subst (λ us. IsNotedOf us c.args.event.worker c.in-Some.i) c.deref.ensures.value
     c.in-Some.ensures in
     let t = c.in_ok-take-in-Respond.ensures in
     faulty past c.args.event c.in-Respond.reply s new rest c.in-Some.i u c.in-Respond.is k
@@ -41,7 +43,7 @@ returns-else-not-branch c = λ past history r.
     let u = c.remove-ticket.result in
     let rest = c.remove-ticket.new.self.items in
     let new = c.take.new.self in
-    let k = subst (λ us. IsPendingAt us c.args.event.worker c.in-Some.i) c.deref.ensures.value
+    let k = subst (λ us. IsNotedOf us c.args.event.worker c.in-Some.i) c.deref.ensures.value
     c.in-Some.ensures in
     let t = c.in_ok-take-in-Respond.ensures in
     followed past c.args.event c.in-Respond.reply s new rest c.in-Some.i u c.in-Respond.is k

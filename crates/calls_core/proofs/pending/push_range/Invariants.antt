@@ -1,10 +1,10 @@
 use Rattle.std.proofs.Common.{◌≡◌, ◌≤◌, ◌++◌, ◌-◌, max}
-use Rattle.calls_counts.specs.Watching.{places}
-use Rattle.calls_counts.proofs.monitor.raise.Given as goal
+use Rattle.std.specs.List.{range_with_len}
+use Rattle.calls_core.proofs.pending.push_range.Given as goal
 
 abbrev pub invariant-loop-i : goal.invariant-loop-i
 invariant-loop-i l = (l.from ≤ l.i) × (l.i ≤ max l.from l.upto)
-    × (l.free.items ≡ l.initial.free.items ++ places l.from (l.i - l.from))
+    × (l.list.items ≡ l.initial.list.items ++ range_with_len l.from (l.i - l.from))
 
 abbrev pub decreases-loop-i : goal.decreases-loop-i
 decreases-loop-i l = l.upto - l.i
