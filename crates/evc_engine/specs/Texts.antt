@@ -1,6 +1,6 @@
 -- The text that `check` writes: the calls in the order of their linearization points, and the
 -- totals at the end.
-use Rattle.std.specs.Prelude.{ℕ, ◌+◌, zero, suc, List, [], ◌∷◌, ◌++◌, map, reverse, Option, Some, None, codes, decimal}
+use Rattle.std.specs.Prelude.{ℕ, ◌+◌, zero, suc, List, [], ◌∷◌, ◌++◌, map, reverse, codes, decimal}
 use Rattle.std.specs.List.{flat_map}
 use Rattle.ec_count.specs.declared.target.Target.{Target}
 use Rattle.ec_count.specs.declared.target.Target.TheVariants.{Worker, Event, Sequencer, Cells, Group}
@@ -21,7 +21,7 @@ abbrev pub linearized_line : NameTable → LinearizedEntry → List ℕ
 linearized_line names d = decimal d.point ++ codes " " ++ entry_line names d.entry
 
 abbrev pub cell_line : List ℕ → ℕ → ℕ → List ℕ
-cell_line name i value = codes "cell " ++ (name ++ codes "[" ++ decimal i ++ codes "]") ++ codes " " ++ decimal value
+cell_line name i value = codes "cell " ++ name ++ codes "[" ++ decimal i ++ codes "] " ++ decimal value
 
 -- the lines of n cells of a block, from its cell i on, if the block begins at cell first
 unfoldable pub cell_lines : List ℕ → List Entry → ℕ → ℕ → ℕ → List (List ℕ)
@@ -38,11 +38,6 @@ totals_of past word (Sequencer q) = count_line (codes "sequencer ") word (issued
 totals_of past word (Cells first n) = cell_lines word past first 0 n
 totals_of past word (Worker w) = []
 totals_of past word (Group g) = []
-
--- the totals of the target of a word of the symbol table, if there is one
-abbrev pub totals_at : List Entry → Option (List ℕ × Target) → List (List ℕ)
-totals_at past None = []
-totals_at past (Some (word, target)) = totals_of past word target
 
 -- the totals of the targets of these words
 abbrev pub totals_by : List Entry → NameTable → List (List ℕ)
