@@ -29,6 +29,7 @@ found_alike : (h : HeadingModel) (v : Version) (entries : List Entry) (g : Group
 found_alike h v entries (groups.Buffer b) (audits.Deliveries list) p = p
 found_alike h v entries (groups.Database d) (audits.Versions list) p = p
 found_alike h v entries (groups.Semaphore s) (audits.Balances m n) p = p
+found_alike h v entries (groups.Both c) (audits.Pairs m n list) p = p
 found_alike h v entries g a p = p
 
 -- the text of `check` depends only on the declarations and the history

@@ -5,7 +5,6 @@ use Rattle.ec_core.specs.declared.act.Entry.{Entry}
 use Rattle.ec_core.specs.Following.{BreaksAt}
 use Rattle.ec_buffer.specs.Items.{AreDeliveries}
 use Rattle.ec_database.specs.Tries.{ListsTries, AreUndisturbed}
-use Rattle.ec_semaphore.specs.Shapes.{Semaphore}
 use Rattle.ec_semaphore.specs.Balances.{balance_parts}
 use Rattle.ec_semaphore.specs.Pairs.{pairs_of}
 use Rattle.ec_text.specs.Puts.{AppendsPrefix}
@@ -40,18 +39,13 @@ pub record IsNotFollowed (h : HeadingModel) (entries : List Entry) (i w k : ℕ)
 
 -- WHAT AN AUDIT FINDS
 
--- what the audit of `both` finds, with these semaphores
-abbrev pub IsPairsOf : List Entry → Semaphore → List Semaphore → AuditResult → Type 0
-IsPairsOf entries c semaphores (audits.Pairs balance now list) =
-    (balance ≡ balance_parts c (reverse entries)) × (now ≡ balance_of balance) × (list.items ≡ pairs_of c semaphores entries)
-IsPairsOf entries c semaphores a = ⊥
-
 -- what the audit of a group found is what the history says
 abbrev pub IsFound : HeadingModel → List Entry → Group → AuditResult → Type 0
 IsFound h entries (groups.Buffer b) (audits.Deliveries list) = AreDeliveries h.setup b entries list.items
 IsFound h entries (groups.Database d) (audits.Versions tries) = ListsTries h.setup d entries tries.list × AreUndisturbed h.setup d entries tries.list
 IsFound h entries (groups.Semaphore s) (audits.Balances balance now) = (balance ≡ balance_parts s (reverse entries)) × (now ≡ balance_of balance)
-IsFound h entries (groups.Both c) a = IsPairsOf entries c (semaphores_of h.groups) a
+IsFound h entries (groups.Both c) (audits.Pairs balance now list) =
+    (balance ≡ balance_parts c (reverse entries)) × (now ≡ balance_of balance) × (list.items ≡ pairs_of c (semaphores_of h.groups) entries)
 IsFound h entries g a = ⊥
 
 -- the workers follow the rules of a group, and this is what its audit found

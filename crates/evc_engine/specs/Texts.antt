@@ -39,17 +39,14 @@ totals_of past word (Cells first n) = cell_lines word past first 0 n
 totals_of past word (Worker w) = []
 totals_of past word (Group g) = []
 
--- the totals of the targets of these words
+-- the totals of the targets of these words: in the order of the declarations, and of the objects of
+-- each
 abbrev pub totals_by : List Entry → NameTable → List (List ℕ)
 totals_by past words = flat_map (λ (e : List ℕ × Target). totals_of past e.0 e.1) words
 
--- the totals, in the order of the declarations and of the objects of each
-abbrev pub totals_lines : HeadingModel → List Entry → List (List ℕ)
-totals_lines h past = totals_by past h.words
-
 -- the lines of these calls between the first line and the totals
 abbrev pub order_lines : HeadingModel → List Entry → List (List ℕ) → List (List ℕ)
-order_lines h entries calls = codes "evc-order 1" ∷ calls ++ codes "totals" ∷ totals_lines h (reverse entries) ++ codes "end" ∷ []
+order_lines h entries calls = codes "evc-order 1" ∷ calls ++ codes "totals" ∷ totals_by (reverse entries) h.words ++ codes "end" ∷ []
 
 abbrev pub check_lines : HeadingModel → List Entry → List Placed → List (List ℕ)
 check_lines h entries placed = order_lines h entries (map (placed_line h.words) placed)

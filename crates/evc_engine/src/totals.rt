@@ -5,7 +5,7 @@ ghost use Rattle.ec_core.specs.Counts.{cell_value};
 ghost use Rattle.ec_core.specs.Standing.{StandsFor};
 ghost use Rattle.ec_core.specs.declared.act.Entry.{Entry};
 ghost use Rattle.ec_heading.specs.Spelling.{lines_text};
-ghost use Rattle.evc_engine.specs.Texts.{totals_of, cell_lines, cell_line, count_line, totals_lines};
+ghost use Rattle.evc_engine.specs.Texts.{totals_of, cell_lines, cell_line, count_line, totals_by};
 
 use ec_core::World;
 use ec_count::{CellId, Target};
@@ -82,7 +82,7 @@ fn put_target<W: Write>(out: &mut Output<'_, W>, world: &World, word: &[u8], tar
 /// objects of each.
 pub fn put_totals<W: Write>(out: &mut Output<'_, W>, heading: &Heading, world: &World)
     ensures { (h : List Entry) → StandsFor world.now h
-        → Puts out.old out.new (lines_text (totals_lines heading.now (reverse h))) }
+        → Puts out.old out.new (lines_text (totals_by (reverse h) heading.now.words)) }
 {
     let words = heading.words();
     for place in 0..words.len() {

@@ -12,7 +12,7 @@ use Rattle.ec_heading.specs.HeadingModel.{HeadingModel}
 use Rattle.std.proofs.lemmas.List.{take_all, take_more, map-append}
 use Rattle.std.proofs.lemmas.Option.{slice_get_cases, slice_get_within, get_or_from_slice_get}
 use Rattle.ec_heading.specs.Spelling.{NameTable, lines_text, ended_line}
-use Rattle.evc_engine.specs.Texts.{cell_line, cell_lines, count_line, totals_of, totals_by, totals_lines}
+use Rattle.evc_engine.specs.Texts.{cell_line, cell_lines, count_line, totals_of, totals_by}
 
 -- a prefix that is one longer has the element at the next index too
 pub take_next : {A : Type 0} (xs : List A) (k : ℕ) (x : A) → slice_get xs k ≡ Some x → take (k + 1) xs ≡ take k xs ++ x ∷ []
@@ -95,7 +95,7 @@ totals_put a b c past words k e is before now =
 
 -- if the lines of each word are put, all lines of totals are put
 pub totals_all : (a b : OutputModel) (past : List Entry) (words : NameTable) (k : ℕ) (heading : HeadingModel) → length words ≤ k → words ≡ heading.words
-    → Puts a b (lines_text (totals_by past (take k words))) → Puts a b (lines_text (totals_lines heading past))
+    → Puts a b (lines_text (totals_by past (take k words))) → Puts a b (lines_text (totals_by past heading.words))
 totals_all a b past words k heading far all put =
     subst (Puts a b) (ap (λ ws. lines_text (totals_by past ws)) (take_all k words far ∙ all)) put
 
