@@ -1,6 +1,5 @@
 -- What follows from the lines that a monitor has checked.
-use Rattle.std.proofs.Common.{◌≡◌, refl, sym, ap, subst, ◌∙◌, ℕ, List, [], ◌∷◌, ◌++◌, take, Some}
-use Rattle.std.proofs.Common.{Result, Ok, Err}
+use Rattle.std.proofs.Common.{◌≡◌, sym, ap, append_assoc, subst, ◌∙◌, ℕ, List, [], ◌∷◌, ◌++◌, take, Some, Result, Ok, Err}
 use Rattle.ec_text.specs.Puts.{OutputModel, at_first, IsWrittenOut}
 use Rattle.calls_report.specs.declared.status.Status.{Status}
 use Rattle.calls_watch.specs.declared.stop.Stop.{Stop}
@@ -12,12 +11,6 @@ use Rattle.evc_c.specs.declared.monitor.Stage.{Stage}
 use Rattle.evc_c.specs.declared.monitor.Stage.TheVariants.{Stopped}
 use Rattle.evc_c.specs.Monitors.{HasTaken, IsStoppedWith, IsNoteAt, IsNoteOf}
 
-one_more : (lines : List (List ℕ)) (line : List ℕ) (rest : List (List ℕ))
-    → lines ++ line ∷ rest ≡ (lines ++ line ∷ []) ++ rest
-one_more [] line rest = refl
-one_more (l ∷ lines) line rest =
-    ap (λ (ls : List (List ℕ)). l ∷ ls) (one_more lines line rest)
-
 abbrev Answer : Type 0
 Answer = Result (Unit {0}) Stop
 
@@ -27,27 +20,23 @@ Leads line result old new =
     (ps qs : List (List ℕ)) (q : List ℕ)
     → IsWatching ps (line ∷ q ∷ qs) old → StateAfterLine result ps (q ∷ qs) new
 
+-- what a line does to a text that goes on after it
+after_line : (lines : List (List ℕ)) (line : List ℕ) (old new : Watcher) (result : Answer) → Leads line result old new → HasTaken lines old
+    → (q : List ℕ) (qs : List (List ℕ)) → StateAfterLine result ((lines ++ line ∷ []) ++ q ∷ qs) (q ∷ qs) new
+after_line lines line old new result leads taken q qs =
+    subst (λ (ps : List (List ℕ)). StateAfterLine result ps (q ∷ qs) new) (sym (append_assoc lines (line ∷ []) (q ∷ qs))) (leads (lines ++ line ∷ q ∷ qs) qs q (taken line (q ∷ qs)))
+
 pub goes_on : (lines : List (List ℕ)) (line : List ℕ) (old new : Watcher) (result : Answer)
     (u : Unit {0}) → Leads line result old new → result ≡ Ok u → HasTaken lines old
     → HasTaken (lines ++ line ∷ []) new
 goes_on lines line old new result u leads ok taken q qs =
-    let rest = q ∷ qs in
-    let text = lines ++ line ∷ rest in
-    let went : StateAfterLine result text rest new = leads text qs q (taken line rest) in
-    let is : IsWatching text rest new =
-    subst (λ (r : Answer). StateAfterLine r text rest new) ok went in
-    subst (λ (ps : List (List ℕ)). IsWatching ps rest new) (one_more lines line rest) is
+    subst (λ (r : Answer). StateAfterLine r ((lines ++ line ∷ []) ++ q ∷ qs) (q ∷ qs) new) ok (after_line lines line old new result leads taken q qs)
 
 pub is_stopped : (lines : List (List ℕ)) (line : List ℕ) (old new : Watcher) (result : Answer)
     (stop : Stop) → Leads line result old new → result ≡ Err stop → HasTaken lines old
     → IsStoppedWith stop (lines ++ line ∷ []) new
 is_stopped lines line old new result stop leads err taken q qs =
-    let rest = q ∷ qs in
-    let text = lines ++ line ∷ rest in
-    let went : StateAfterLine result text rest new = leads text qs q (taken line rest) in
-    let is : Stops stop text new =
-    subst (λ (r : Answer). StateAfterLine r text rest new) err went in
-    subst (λ (ps : List (List ℕ)). Stops stop ps new) (one_more lines line rest) is
+    subst (λ (r : Answer). StateAfterLine r ((lines ++ line ∷ []) ++ q ∷ qs) (q ∷ qs) new) err (after_line lines line old new result leads taken q qs)
 
 -- what is copied of a note
 pub said : (m : Monitor) (stop : Stop) (status : Status) (writer room : ℕ) (first last : OutputModel)

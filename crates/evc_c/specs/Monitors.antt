@@ -4,8 +4,7 @@ use Rattle.std.specs.Prelude.{◌≡◌, ◌≤◌, ℕ, List, [], ◌∷◌, �
 use Rattle.ec_text.specs.Puts.{OutputModel, at_first, IsWrittenOut}
 use Rattle.calls_text.specs.declared.fault.TextFault.TheVariants as faults
 use Rattle.calls_report.specs.declared.status.Status.{Status}
-use Rattle.calls_report.specs.declared.status.Status.TheVariants.{Done, Refused, Usage, Memory}
-use Rattle.calls_report.specs.declared.status.Status.TheVariants.{NotDecided}
+use Rattle.calls_report.specs.declared.status.Status.TheVariants.{Done, Refused, Usage, Memory, NotDecided}
 use Rattle.calls_report.specs.Statuses.{status_code}
 use Rattle.calls_watch.specs.declared.stop.Stop.{Stop}
 use Rattle.calls_watch.specs.declared.stop.Stop.TheVariants as stops
@@ -34,44 +33,33 @@ IsOpen m = (m.stage ≡ Open) × HasTaken [] m.watcher
 -- STATUSES
 
 abbrev pub stop_status : Stop → Status
-stop_status (stops.Unread (faults.At n kind cause)) = Refused
 stop_status (stops.Unread faults.Memory) = Memory
-stop_status (stops.Refused x report) = Refused
 stop_status stops.NotWatched = NotDecided
 stop_status stops.Memory = Memory
+stop_status stop = Refused
 
+-- the status of a function that leaves a monitor at this stage: that of the stop if it was stopped
+-- before, and Usage if it had ended or was closed
 abbrev pub status_at : Stage → Status
 status_at Open = Done
 status_at (Stopped stop) = stop_status stop
-status_at Ended = Usage
-status_at Closed = Usage
-
--- a monitor that is not open stays as it was: the status is that of the stop if it was stopped, and
--- Usage if it has ended or was closed
-abbrev pub Stays : Status → Monitor → Monitor → Type 0
-Stays status old new = (status ≡ status_at old.stage) × (new ≡ old)
+status_at stage = Usage
 
 -- LINES
 
 -- the state after these lines
-abbrev pub GoesOnAt : Stage → Status → List (List ℕ) → Watcher → Type 0
-GoesOnAt Open status lines w = (status ≡ Done) × HasTaken lines w
-GoesOnAt (Stopped stop) status lines w = (status ≡ stop_status stop) × IsStoppedWith stop lines w
-GoesOnAt Ended status lines w = ⊥
-GoesOnAt Closed status lines w = ⊥
+abbrev pub GoesOnAt : Stage → List (List ℕ) → Watcher → Type 0
+GoesOnAt Open lines w = HasTaken lines w
+GoesOnAt (Stopped stop) lines w = IsStoppedWith stop lines w
+GoesOnAt stage lines w = ⊥
 
-abbrev pub GoesOnWith : List ℕ → Status → Monitor → Monitor → Type 0
-GoesOnWith line status old new =
-    (lines : List (List ℕ)) → HasTaken lines old.watcher
-    → GoesOnAt new.stage status (lines ++ line ∷ []) new.watcher
-
-abbrev pub TakesLineAt : Stage → List ℕ → Status → Monitor → Monitor → Type 0
-TakesLineAt Open line status old new = GoesOnWith line status old new
-TakesLineAt stage line status old new = Stays status old new
+-- what a line does to a monitor; one that is not open stays as it was
+abbrev pub TakesLineAt : Stage → List ℕ → Monitor → Monitor → Type 0
+TakesLineAt Open line old new = (lines : List (List ℕ)) → HasTaken lines old.watcher → GoesOnAt new.stage (lines ++ line ∷ []) new.watcher
+TakesLineAt stage line old new = new ≡ old
 
 abbrev pub TakesLine : List ℕ → ℕ → Monitor → Monitor → Type 0
-TakesLine line code old new = (status : Status) × (code ≡ status_code status)
-    × TakesLineAt old.stage line status old new
+TakesLine line code old new = (code ≡ status_code (status_at new.stage)) × TakesLineAt old.stage line old new
 
 -- THE END
 
@@ -79,20 +67,15 @@ TakesLine line code old new = (status : Status) × (code ≡ status_code status)
 abbrev pub EndsAt : Stage → Status → List (List ℕ) → Watcher → Type 0
 EndsAt Ended status lines w = (status ≡ Done) × IsOver (lines ++ [] ∷ []) w
 EndsAt (Stopped stop) status lines w = (status ≡ stop_status stop) × Stops stop (lines ++ [] ∷ []) w
-EndsAt Open status lines w = ⊥
-EndsAt Closed status lines w = ⊥
+EndsAt stage status lines w = ⊥
 
-abbrev pub EndsWith : Status → Monitor → Monitor → Type 0
-EndsWith status old new =
-    (lines : List (List ℕ)) → HasTaken lines old.watcher → EndsAt new.stage status lines new.watcher
-
+-- what the end does to a monitor; one that is not open stays as it was
 abbrev pub EndsTextAt : Stage → Status → Monitor → Monitor → Type 0
-EndsTextAt Open status old new = EndsWith status old new
-EndsTextAt stage status old new = Stays status old new
+EndsTextAt Open status old new = (lines : List (List ℕ)) → HasTaken lines old.watcher → EndsAt new.stage status lines new.watcher
+EndsTextAt stage status old new = (status ≡ status_at stage) × (new ≡ old)
 
 abbrev pub EndsText : ℕ → Monitor → Monitor → Type 0
-EndsText code old new = (status : Status) × (code ≡ status_code status)
-    × EndsTextAt old.stage status old new
+EndsText code old new = (status : Status) × (code ≡ status_code status) × EndsTextAt old.stage status old new
 
 -- NOTES
 

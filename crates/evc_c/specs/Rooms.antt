@@ -1,11 +1,8 @@
 -- The caller's buffers, as writers.
 use Rattle.std.specs.Prelude.{◌≡◌, ℕ, List, [], ◌∷◌, take, Option}
 use Rattle.ec_text.specs.Puts.{OutputModel, IsWrittenOut}
-use Rattle.evc_engine.specs.declared.status.Status as evc
-use Rattle.calls_report.specs.declared.status.Status as calls
-use Rattle.calls_report.specs.Checks.{Checks}
 use Rattle.evc_c.specs.declared.room.Room.{Room}
-use Rattle.evc_c.specs.Answers.{ContractBy, Contract, outputs, calls_outputs}
+use Rattle.evc_c.specs.Answers.{ContractBy}
 
 -- the contents of a buffer, as a writer
 abbrev pub room_holds : Room → List ℕ
@@ -20,9 +17,3 @@ pub record FillsBy {S O : Type 0} (outputs : List ℕ → OutputModel → O) (Do
   pub left : Option (List ℕ)
   pub ends : Does bytes left status (outputs [] first) (outputs (take new.len new.bytes.now) last)
   pub written : IsWrittenOut first → IsWrittenOut last
-
-abbrev pub Fills : Contract → List ℕ → evc.Status → Room → Room → OutputModel → OutputModel → Type 0
-Fills Does bytes status r new first last = FillsBy outputs Does bytes status r new first last
-
-abbrev pub CallsFills : List ℕ → calls.Status → Room → Room → OutputModel → OutputModel → Type 0
-CallsFills bytes status r new first last = FillsBy calls_outputs Checks bytes status r new first last

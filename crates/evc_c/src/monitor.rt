@@ -1,21 +1,15 @@
 //! Monitors, which check histories of calls line by line: their state, and what each function does
 //! with it.
 ghost use Rattle.std.specs.Prelude.{◌≡◌};
-ghost use Rattle.evc_c.specs.declared.monitor.Stage.TheVariants.{Open, Stopped};
-ghost use Rattle.evc_c.specs.Monitors.{stop_status, status_at, IsOpen, GoesOnWith, TakesLine};
-ghost use Rattle.evc_c.specs.Monitors.{EndsWith, EndsText};
-ghost use Rattle.evc_c.specs.Monitors.{ReportsNote, ReportsLoad, IsClosed};
+ghost use Rattle.evc_c.specs.Monitors.{status_at, IsOpen, TakesLine, EndsText, ReportsNote, ReportsLoad, IsClosed};
 
+use crate::calls::Noted;
 use crate::room::copy_prefix;
-use arrayvec::ArrayVec;
 use calls_report::Status;
 use calls_text::TextFault;
 use calls_watch::{Stop, Watcher, report_stop};
 use ec_text::Output;
 use std::alloc::Global;
-
-/// The note on what stopped a monitor.
-type Noted = ArrayVec<u8, 1024>;
 
 /// How many histories have ended, how many calls were invoked, and for each of these how many
 /// others were pending at its invocation, added up.
@@ -47,24 +41,15 @@ pub(crate) struct Monitor {
     stage: Stage,
 }
 
-/// Returns the status of a monitor that was stopped for a reason.
-fn stop_status(stop: Stop) -> Status
-    ensures { result ≡ stop_status stop }
-{
-    match stop {
-        Stop::Unread(TextFault::At { .. }) | Stop::Refused(_, _) => Status::Refused,
-        Stop::NotWatched => Status::NotDecided,
-        Stop::Unread(TextFault::Memory) | Stop::Memory => Status::Memory,
-    }
-}
-
-/// Returns the status of a function that leaves a monitor as it is.
+/// Returns the status of a function that leaves a monitor at this stage.
 fn status_at(stage: Stage) -> Status
     ensures { result ≡ status_at stage }
 {
     match stage {
         Stage::Open => Status::Done,
-        Stage::Stopped(stop) => stop_status(stop),
+        Stage::Stopped(Stop::Unread(TextFault::At { .. }) | Stop::Refused(_, _)) => Status::Refused,
+        Stage::Stopped(Stop::NotWatched) => Status::NotDecided,
+        Stage::Stopped(Stop::Unread(TextFault::Memory) | Stop::Memory) => Status::Memory,
         Stage::Ended | Stage::Closed => Status::Usage,
     }
 }
@@ -88,63 +73,36 @@ impl Monitor {
         })
     }
 
-    /// Stops the monitor for a reason, and returns its status.
-    fn stop(&mut self, stop: Stop) -> Status
-        ensures status { result ≡ stop_status stop }
-        ensures stage { self.new.stage ≡ Stopped stop }
-        ensures watcher { self.new.watcher ≡ self.old.watcher }
-    {
-        self.stage = Stage::Stopped(stop);
-        stop_status(stop)
-    }
-
-    /// Checks a line while the text may continue.
-    #[tactic(auto, using(crate::proofs::Taken::goes_on, crate::proofs::Taken::is_stopped))]
-    fn take(&mut self, line: &[u8]) -> Status
-        requires { self.old.stage ≡ Open }
-        ensures { GoesOnWith line.now result self.old self.new }
-    {
-        match self.watcher.line(self.alloc, line) {
-            Ok(()) => Status::Done,
-            Err(stop) => self.stop(stop),
-        }
-    }
-
     /// Checks the next line, given without its LF. Once the text is not checked further, the status
     /// stays.
+    #[tactic(auto, using(crate::proofs::Taken::goes_on, crate::proofs::Taken::is_stopped))]
     pub(crate) fn line(&mut self, line: &[u8]) -> u8
         ensures { TakesLine line.now result self.old self.new }
     {
-        let status = match self.stage {
-            Stage::Open => self.take(line),
-            idle => status_at(idle),
+        let stage = self.stage;
+        let Stage::Open = stage else {
+            return status_at(stage).code();
         };
-        status.code()
-    }
-
-    /// Ends the text while it may continue.
-    fn finish(&mut self) -> Status
-        requires { self.old.stage ≡ Open }
-        ensures { EndsWith result self.old self.new }
-    {
-        match self.watcher.end(self.alloc, &[]) {
-            Ok(()) => {
-                self.stage = Stage::Ended;
-                Status::Done
-            }
-            Err(stop) => self.stop(stop),
+        if let Err(stop) = self.watcher.line(self.alloc, line) {
+            self.stage = Stage::Stopped(stop);
+            return status_at(self.stage).code();
         }
+        Status::Done.code()
     }
 
     /// Ends the text after its last line.
     pub(crate) fn end(&mut self) -> u8
         ensures { EndsText result self.old self.new }
     {
-        let status = match self.stage {
-            Stage::Open => self.finish(),
-            idle => status_at(idle),
+        let Stage::Open = self.stage else {
+            return status_at(self.stage).code();
         };
-        status.code()
+        if let Err(stop) = self.watcher.end(self.alloc, &[]) {
+            self.stage = Stage::Stopped(stop);
+            return status_at(self.stage).code();
+        }
+        self.stage = Stage::Ended;
+        Status::Done.code()
     }
 
     /// Copies into a buffer as much of the note on what stopped the monitor as fits, and returns

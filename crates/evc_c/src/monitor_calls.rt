@@ -5,8 +5,7 @@
 ghost use Rattle.std.specs.Prelude.{◌≡◌, ◌≤◌};
 ghost use Rattle.std.specs.Borrow.{sem};
 ghost use Rattle.evc_c.specs.declared.monitor.Monitor.{Monitor};
-ghost use Rattle.evc_c.specs.Monitors.{IsOpen, TakesLine, EndsText, ReportsNote, ReportsLoad};
-ghost use Rattle.evc_c.specs.Monitors.{IsClosed};
+ghost use Rattle.evc_c.specs.Monitors.{IsOpen, TakesLine, EndsText, ReportsNote, ReportsLoad, IsClosed};
 ghost use Rattle.evc_c.specs.Places.{monitor_size, room_size, room_for_monitor, monitor_at};
 
 use crate::monitor::{EvcLoad, Monitor};

@@ -1,7 +1,7 @@
 //! The caller's buffers, as writers.
 ghost use Rattle.std.specs.Prelude.{◌≡◌, ◌≤◌, ◌+◌, ◌-◌, ◌∷◌, ◌++◌, [], min, length, take, drop, Some, IsOk, IfOk};
 ghost use Rattle.std.specs.Io.{WritesAtMost};
-ghost use Rattle.std.specs.Io.KnownBytes.{Keeps, WriteAppends};
+ghost use Rattle.std.specs.Io.KnownBytes.{WriteAppends};
 
 use std::alloc::{AllocError, Global};
 use std::io;

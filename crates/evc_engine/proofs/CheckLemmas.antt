@@ -17,7 +17,7 @@ use Rattle.ec_heading.specs.Spelling.{NameTable, lines_text, ended_line}
 use Rattle.ec_trace.proofs.shared.ReadTraces.{read_is_trace, trace_refuses}
 use Rattle.ec_trace.specs.Outcome.{Returns}
 use Rattle.ec_trace.specs.declared.fault.TraceFault.{TraceFault}
-use Rattle.ec_trace.specs.declared.fault.TraceFault.TheVariants.{BadLine, Refused, WrongReply, Unfinished, TooLarge, Read, Memory}
+use Rattle.ec_trace.specs.declared.fault.TraceFault.TheVariants.{Read, Memory}
 use Rattle.ec_trace.specs.declared.read.TheConstants.{TRACE_MAX}
 use Rattle.evc_engine.specs.declared.status.Status.{Status}
 use Rattle.evc_engine.specs.declared.status.Status.TheVariants as statuses
@@ -84,16 +84,10 @@ pub written_checked : (bytes : List ℕ) (left : Option (List ℕ)) (h : Heading
 written_checked bytes left h entries statuses.Done old new returned writes = (record { heading = h; entries = entries }, reads_as bytes h entries returned, writes)
 written_checked bytes left h entries statuses.InputOutput old new returned writes = inl (record { heading = h; entries = entries }, reads_as bytes h entries returned, writes)
 written_checked bytes left h entries statuses.Memory old new returned writes = writes
-written_checked bytes left h entries statuses.Refused old new returned writes = absurd writes
-written_checked bytes left h entries statuses.Usage old new returned writes = absurd writes
-written_checked bytes left h entries statuses.Stopped old new returned writes = absurd writes
+written_checked bytes left h entries status old new returned writes = absurd writes
 
 -- the trace was not read
 pub fault_checked : (bytes : List ℕ) (left : Option (List ℕ)) (fault : TraceFault) (old new : Outputs) → Returns TRACE_MAX bytes left (Err fault) → Keeps old.out new.out → Notes old new (fault_note fault) → Checks bytes left (fault_status fault) old new
-fault_checked bytes left (BadLine n) old new returned out note = (BadLine n, record { none = trace_refuses bytes (BadLine n) returned; returned = returned }, out, note)
-fault_checked bytes left (Refused n r) old new returned out note = (Refused n r, record { none = trace_refuses bytes (Refused n r) returned; returned = returned }, out, note)
-fault_checked bytes left (WrongReply n r) old new returned out note = (WrongReply n r, record { none = trace_refuses bytes (WrongReply n r) returned; returned = returned }, out, note)
-fault_checked bytes left Unfinished old new returned out note = (Unfinished, record { none = trace_refuses bytes Unfinished returned; returned = returned }, out, note)
-fault_checked bytes left TooLarge old new returned out note = (TooLarge, record { none = trace_refuses bytes TooLarge returned; returned = returned }, out, note)
 fault_checked bytes left Read old new returned out note = inr (returned, out, note)
 fault_checked bytes left Memory old new returned out note = (out, note)
+fault_checked bytes left fault old new returned out note = (fault, record { none = trace_refuses bytes fault returned; returned = returned }, out, note)

@@ -43,27 +43,21 @@ module _ (h : HeadingModel) (entries : List Entry) where
       → (b : Buffer) × (g ≡ groups.Buffer b) × P h.setup b
   of_buffer (groups.Buffer b) a P e so =
       (b, refl, subst (λ t. P t b) e.represents.1 (subst (λ s. P a.setup s) e.represents.0 (so (ends_at a.setup (RepresentsDeliveries a) e.represents.1 e.declared e.accepted e.represents.2))))
-  of_buffer (groups.Database d) a P e so = absurd e.represents
-  of_buffer (groups.Semaphore s) a P e so = absurd e.represents
-  of_buffer (groups.Both c) a P e so = absurd e.represents
+  of_buffer g a P e so = absurd e.represents
 
   -- of a database
   pub of_database : (g : Group) (a : VersionAuditModel) (P : Tables → Database → Type 0) → EndsFor h entries g (audits.Versions a) → (EndsAt a.setup (RepresentsVersions a) entries → P a.setup a.shape)
       → (d : Database) × (g ≡ groups.Database d) × P h.setup d
   of_database (groups.Database d) a P e so =
       (d, refl, subst (λ t. P t d) e.represents.1 (subst (λ s. P a.setup s) e.represents.0 (so (ends_at a.setup (RepresentsVersions a) e.represents.1 e.declared e.accepted e.represents.2))))
-  of_database (groups.Buffer b) a P e so = absurd e.represents
-  of_database (groups.Semaphore s) a P e so = absurd e.represents
-  of_database (groups.Both c) a P e so = absurd e.represents
+  of_database g a P e so = absurd e.represents
 
   -- of a semaphore
   pub of_semaphore : (g : Group) (a : BalanceAuditModel) (P : Semaphore → Type 0) → EndsFor h entries g (audits.Balance a) → (EndsAt h.setup (RepresentsBalance a) entries → P a.shape)
       → (s : Semaphore) × (g ≡ groups.Semaphore s) × P s
   of_semaphore (groups.Semaphore s) a P e so =
       (s, refl, subst P e.represents.0 (so (ends_at h.setup (RepresentsBalance a) refl e.declared e.accepted e.represents.1)))
-  of_semaphore (groups.Buffer b) a P e so = absurd e.represents
-  of_semaphore (groups.Database d) a P e so = absurd e.represents
-  of_semaphore (groups.Both c) a P e so = absurd e.represents
+  of_semaphore g a P e so = absurd e.represents
 
   -- of `both`
   pub of_both : (g : Group) (a : BothAudit) (P : Semaphore → List Semaphore → Semaphore → Type 0) → EndsFor h entries g (audits.Both a)
@@ -75,9 +69,7 @@ module _ (h : HeadingModel) (entries : List Entry) where
     subst (λ s. P c (semaphores_of h.groups) s) e.represents.0 (subst (λ all. P c all a.balance.shape) e.represents.3 (subst (λ s. P s a.pairs.shapes a.balance.shape) e.represents.2
         (so (ends_at h.setup (RepresentsBalance a.balance) refl e.declared e.accepted e.represents.1) (ends_at h.setup (RepresentsPairs a.pairs) refl e.declared e.accepted e.represents.4)))),
   )
-  of_both (groups.Buffer b) a P e so = absurd e.represents
-  of_both (groups.Database d) a P e so = absurd e.represents
-  of_both (groups.Semaphore s) a P e so = absurd e.represents
+  of_both g a P e so = absurd e.represents
 
 -- what the audit of the common semaphore of `both` has counted
 pub record CountsBoth (a : BothAudit) (entries : List Entry) : Type 0 where
@@ -93,9 +85,7 @@ counts_both h entries (groups.Both c) a e =
       parts = ap₂ (λ d u. let b : Balance = record { initial = a.balance.shape.initial; downs = d; ups = u } in b) counted.downs counted.ups;
       small = omega (arith, one, counted.ups, few);
     }
-counts_both h entries (groups.Buffer b) a e = absurd e.represents
-counts_both h entries (groups.Database d) a e = absurd e.represents
-counts_both h entries (groups.Semaphore s) a e = absurd e.represents
+counts_both h entries g a e = absurd e.represents
 
 -- there is a group with each number below the number of groups
 pub group_at : (gs : List Group) (n : ℕ) → n < length gs → (g : Group) × (slice_get gs n ≡ Some g)

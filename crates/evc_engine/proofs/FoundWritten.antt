@@ -7,7 +7,7 @@ use Rattle.ec_heading.specs.HeadingModel.{HeadingModel}
 use Rattle.ec_trace.proofs.shared.ReadTraces.{trace_refuses}
 use Rattle.ec_trace.specs.Outcome.{Returns}
 use Rattle.ec_trace.specs.declared.fault.TraceFault.{TraceFault}
-use Rattle.ec_trace.specs.declared.fault.TraceFault.TheVariants.{BadLine, Refused, WrongReply, Unfinished, TooLarge, Read, Memory}
+use Rattle.ec_trace.specs.declared.fault.TraceFault.TheVariants.{Read, Memory}
 use Rattle.ec_trace.specs.declared.read.TheConstants.{TRACE_MAX}
 use Rattle.evc_engine.specs.Audits.{AreAudited, IsStop, AuditWrites, Audits, stop_status, stop_note}
 use Rattle.evc_engine.specs.Checks.{Outputs, Notes}
@@ -39,10 +39,6 @@ module _ (bytes : List ℕ) (left : Option (List ℕ)) (h : HeadingModel) (old n
 
 -- the trace was not read
 pub fault_told : (bytes : List ℕ) (left : Option (List ℕ)) (fault : TraceFault) (old new : Outputs) → Returns TRACE_MAX bytes left (Err fault) → Keeps old.out new.out → Notes old new (fault_note fault) → Audits bytes left (fault_status fault) old new
-fault_told bytes left (BadLine n) old new returned out note = inr (BadLine n, record { none = trace_refuses bytes (BadLine n) returned; returned = returned }, out, note)
-fault_told bytes left (Refused n r) old new returned out note = inr (Refused n r, record { none = trace_refuses bytes (Refused n r) returned; returned = returned }, out, note)
-fault_told bytes left (WrongReply n r) old new returned out note = inr (WrongReply n r, record { none = trace_refuses bytes (WrongReply n r) returned; returned = returned }, out, note)
-fault_told bytes left Unfinished old new returned out note = inr (Unfinished, record { none = trace_refuses bytes Unfinished returned; returned = returned }, out, note)
-fault_told bytes left TooLarge old new returned out note = inr (TooLarge, record { none = trace_refuses bytes TooLarge returned; returned = returned }, out, note)
 fault_told bytes left Read old new returned out note = inr (returned, out, note)
 fault_told bytes left Memory old new returned out note = (out, note)
+fault_told bytes left fault old new returned out note = inr (fault, record { none = trace_refuses bytes fault returned; returned = returned }, out, note)

@@ -106,44 +106,28 @@ module _ (h : HeadingModel) (entries : List Entry) (read : IsRead h entries) whe
   delivered b name (audits.Deliveries xs) (audits.Deliveries ys) shape p q =
       ap (map (delivery_line h.words name))
       (deliveries.determined h.setup b entries (record { declared = read.declared; shape = shape; accepted = read.accepted; followed = p.0 }) xs.items ys.items p.1 q.1)
-  delivered b name (audits.Deliveries xs) (audits.Versions ys) shape p q = absurd q.1
-  delivered b name (audits.Deliveries xs) (audits.Balances m n) shape p q = absurd q.1
-  delivered b name (audits.Deliveries xs) (audits.Pairs m n ys) shape p q = absurd q.1
-  delivered b name (audits.Versions xs) c shape p q = absurd p.1
-  delivered b name (audits.Balances m n) c shape p q = absurd p.1
-  delivered b name (audits.Pairs m n xs) c shape p q = absurd p.1
+  delivered b name (audits.Deliveries xs) c shape p q = absurd q.1
+  delivered b name a c shape p q = absurd p.1
 
   returned : (d : Database) (name : List ℕ) (a c : AuditResult) → IsAudited h entries (groups.Database d) a → IsAudited h entries (groups.Database d) c → audited_lines h name a ≡ audited_lines h name c
   returned d name (audits.Versions xs) (audits.Versions ys) p q = ap (map (version_line h.words name)) (tries.determined h.setup d entries xs.list ys.list p.1.0 q.1.0)
-  returned d name (audits.Versions xs) (audits.Deliveries ys) p q = absurd q.1
-  returned d name (audits.Versions xs) (audits.Balances m n) p q = absurd q.1
-  returned d name (audits.Versions xs) (audits.Pairs m n ys) p q = absurd q.1
-  returned d name (audits.Deliveries xs) c p q = absurd p.1
-  returned d name (audits.Balances m n) c p q = absurd p.1
-  returned d name (audits.Pairs m n xs) c p q = absurd p.1
+  returned d name (audits.Versions xs) c p q = absurd q.1
+  returned d name a c p q = absurd p.1
 
   one_balance : (name : List ℕ) (a c : Balance) (m n : ℕ) → a ≡ c → m ≡ n → balance_line name a m ≡ balance_line name c n
   one_balance name a c m n same now = ap (λ b. balance_line name b m) same ∙ ap (balance_line name c) now
 
   balanced : (s : Semaphore) (name : List ℕ) (a c : AuditResult) → IsAudited h entries (groups.Semaphore s) a → IsAudited h entries (groups.Semaphore s) c → audited_lines h name a ≡ audited_lines h name c
   balanced s name (audits.Balances a m) (audits.Balances c n) p q = ap (λ l. l ∷ []) (one_balance name a c m n (p.1.0 ∙ sym q.1.0) (p.1.1 ∙ ap balance_of (p.1.0 ∙ sym q.1.0) ∙ sym q.1.1))
-  balanced s name (audits.Balances a m) (audits.Deliveries ys) p q = absurd q.1
-  balanced s name (audits.Balances a m) (audits.Versions ys) p q = absurd q.1
-  balanced s name (audits.Balances a m) (audits.Pairs c n ys) p q = absurd q.1
-  balanced s name (audits.Deliveries xs) c p q = absurd p.1
-  balanced s name (audits.Versions xs) c p q = absurd p.1
-  balanced s name (audits.Pairs m n xs) c p q = absurd p.1
+  balanced s name (audits.Balances a m) c p q = absurd q.1
+  balanced s name a c p q = absurd p.1
 
   paired : (s : Semaphore) (name : List ℕ) (a c : AuditResult) → IsAudited h entries (groups.Both s) a → IsAudited h entries (groups.Both s) c → audited_lines h name a ≡ audited_lines h name c
   paired s name (audits.Pairs a m xs) (audits.Pairs c n ys) p q =
       ap (λ l. l ∷ map (pair_line h.words (semaphore_word h.names 0 h.groups)) xs.items) (one_balance name a c m n (p.1.0 ∙ sym q.1.0) (p.1.1 ∙ ap balance_of (p.1.0 ∙ sym q.1.0) ∙ sym q.1.1))
       ∙ ap (λ l. balance_line name c n ∷ map (pair_line h.words (semaphore_word h.names 0 h.groups)) l) (p.1.2 ∙ sym q.1.2)
-  paired s name (audits.Pairs a m xs) (audits.Deliveries ys) p q = absurd q.1
-  paired s name (audits.Pairs a m xs) (audits.Versions ys) p q = absurd q.1
-  paired s name (audits.Pairs a m xs) (audits.Balances c n) p q = absurd q.1
-  paired s name (audits.Deliveries xs) c p q = absurd p.1
-  paired s name (audits.Versions xs) c p q = absurd p.1
-  paired s name (audits.Balances m n) c p q = absurd p.1
+  paired s name (audits.Pairs a m xs) c p q = absurd q.1
+  paired s name a c p q = absurd p.1
 
   same_lines : (g : Group) (name : List ℕ) (a c : AuditResult) → HasShape g → IsAudited h entries g a → IsAudited h entries g c → audited_lines h name a ≡ audited_lines h name c
   same_lines (groups.Buffer b) name a c shape p q = delivered b name a c shape p q
@@ -159,14 +143,11 @@ module _ (h : HeadingModel) (entries : List Entry) (read : IsRead h entries) whe
       → groups_lines h i found ≡ groups_lines h i other
   unfolding groups_lines
   same_text i [] [] [] shapes l m p q = refl
-  same_text i [] [] (c ∷ others) shapes l m p q = absurd (omega arith)
-  same_text i [] (a ∷ found) other shapes l m p q = absurd (omega arith)
-  same_text i (g ∷ gs) [] other shapes l m p q = absurd (omega arith)
-  same_text i (g ∷ gs) (a ∷ found) [] shapes l m p q = absurd (omega arith)
   same_text i (g ∷ gs) (a ∷ found) (c ∷ other) shapes l m p q =
       ap (λ x. x ++ groups_lines h (i + 1) found) (same_lines g (group_word h.names i) a c shapes.0 (p 0 g a refl refl) (q 0 g c refl refl))
       ∙ ap (λ x. audited_lines h (group_word h.names i) c ++ x)
       (same_text (i + 1) gs found other shapes.1 (omega arith) (omega arith) (λ j g' a' at got. p (suc j) g' a' at got) (λ j g' a' at got. q (suc j) g' a' at got))
+  same_text i gs found other shapes l m p q = absurd (omega arith)
 
   whole_text : (found other : List AuditResult) → AreAudited h entries found → AreAudited h entries other → audit_text h found ≡ audit_text h other
   unfolding audit_text

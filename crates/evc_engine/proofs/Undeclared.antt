@@ -5,13 +5,20 @@ use Rattle.std.proofs.lemmas.Bool.Decides.{nat_tests}
 use Rattle.ec_count.specs.Tables.{Tables}
 use Rattle.ec_count.specs.declared.setup.Rights.{Rights}
 use Rattle.ec_core.specs.declared.act.Act.{Act}
-use Rattle.ec_core.specs.declared.act.Act.TheVariants.{Advance, Read, Await, Go, Ticket, Put, Get, Hand}
+use Rattle.ec_core.specs.declared.act.Act.TheVariants.{Ticket, Put}
 use Rattle.ec_core.specs.declared.act.Entry.{Entry}
 use Rattle.ec_core.specs.Counts.{total, issued, cell_value, component_total, sum_to, is_ticket, put_in}
 use Rattle.ec_core.specs.Acceptance.{IsAccepted, names_unknown_object}
 use Rattle.ec_core.specs.Standing.{State, StandsFor}
 use Rattle.ec_core.proofs.shared.Totals.{total_is}
 use Rattle.ec_core.proofs.shared.Answering.{allowed}
+
+-- what is shown of an object, or 0, is its value, if this is 0 for one that is not declared
+shown : (n k value : ℕ) → (k ≤ n → value ≡ 0) → unwrap_or (cond (nat_lt n k) (Some value) None) 0 ≡ value
+shown n k value none = elim (nat_lt n k) as (λ b. nat_lt n k ≡ b → unwrap_or (cond b (Some value) None) 0 ≡ value) [
+  | true ↦ λ q. refl
+  | false ↦ λ q. (let far : k ≤ n = grind arith in sym (none far))
+] refl
 
 none_at : (rows : List Rights) (e : ℕ) → length rows ≤ e → length (option_map_or (λ (r : Rights). r.signal) (slice_get rows e) []) ≡ 0
 none_at [] e h = refl
@@ -22,37 +29,18 @@ total_none : (t : Tables) (e : ℕ) (past : List Entry) → IsAccepted t past �
 unfolding sum_to
 total_none t e past acc h = sym (total_is t e past acc) ∙ ap (sum_to (λ c. component_total t e c past)) (none_at t.events e h)
 
-pub shown_total : (t : Tables) (e : ℕ) (past : List Entry) → IsAccepted t past → unwrap_or (cond (nat_lt e (length t.events)) (Some (total e past)) None) 0 ≡ total e past
-shown_total t e past acc =
-    elim (nat_lt e (length t.events)) as (λ b. nat_lt e (length t.events) ≡ b → unwrap_or (cond b (Some (total e past)) None) 0 ≡ total e past) [
-      | true ↦ λ q. refl
-      | false ↦ λ q. (let far : length t.events ≤ e = grind arith in sym (total_none t e past acc far))
-    ] refl
-
 -- the total that a world shows, or 0, is that of its history
 pub total_shown : (s : State) (h : List Entry) (e : ℕ) → StandsFor s h
     → unwrap_or (cond (nat_lt e (length s.setup.events)) (Some (total e (reverse h))) None) 0 ≡ total e (reverse h)
-total_shown s h e st = shown_total s.setup e (reverse h) st.accepted
+total_shown s h e st = shown e (length s.setup.events) (total e (reverse h)) (total_none s.setup e (reverse h) st.accepted)
 
 no_ticket : (t : Tables) (q : ℕ) (act : Act) → names_unknown_object t act ≡ false → length t.takers ≤ q → is_ticket q act ≡ false
 no_ticket t q (Ticket r) known h = grind (arith, nat_tests)
-no_ticket t q (Advance f) known h = refl
-no_ticket t q (Read f) known h = refl
-no_ticket t q (Await f v) known h = refl
-no_ticket t q Go known h = refl
-no_ticket t q (Put x v) known h = refl
-no_ticket t q (Get x) known h = refl
-no_ticket t q (Hand f b) known h = refl
+no_ticket t q act known h = refl
 
 no_put : (t : Tables) (x : ℕ) (act : Act) → names_unknown_object t act ≡ false → length t.cells ≤ x → put_in x act ≡ None
 no_put t x (Put y v) known h = (let off : (y == x) ≡ false = grind (arith, nat_tests) in ap (λ b. cond b (Some v) None) off)
-no_put t x (Ticket r) known h = refl
-no_put t x (Advance f) known h = refl
-no_put t x (Read f) known h = refl
-no_put t x (Await f v) known h = refl
-no_put t x Go known h = refl
-no_put t x (Get y) known h = refl
-no_put t x (Hand f b) known h = refl
+no_put t x act known h = refl
 
 issued_none : (t : Tables) (q : ℕ) (past : List Entry) → IsAccepted t past → length t.takers ≤ q → issued q past ≡ 0
 unfolding issued
@@ -68,29 +56,15 @@ cell_none t x [] acc h = refl
 cell_none t x (y ∷ past) acc h =
     ap (λ o. unwrap_or o (cell_value x past)) (no_put t x y.act (allowed t past y.worker y.act y.reply acc.0).0.known h) ∙ cell_none t x past acc.1 h
 
-shown_issued : (t : Tables) (q : ℕ) (past : List Entry) → IsAccepted t past → unwrap_or (cond (nat_lt q (length t.takers)) (Some (issued q past)) None) 0 ≡ issued q past
-shown_issued t q past acc =
-    elim (nat_lt q (length t.takers)) as (λ b. nat_lt q (length t.takers) ≡ b → unwrap_or (cond b (Some (issued q past)) None) 0 ≡ issued q past) [
-      | true ↦ λ e. refl
-      | false ↦ λ e. (let far : length t.takers ≤ q = grind arith in sym (issued_none t q past acc far))
-    ] refl
-
 -- the tickets that a world shows, or 0, are those of its history
 pub issued_shown : (s : State) (h : List Entry) (q : ℕ) → StandsFor s h
     → unwrap_or (cond (nat_lt q (length s.setup.takers)) (Some (issued q (reverse h))) None) 0 ≡ issued q (reverse h)
-issued_shown s h q st = shown_issued s.setup q (reverse h) st.accepted
-
-shown_cell : (t : Tables) (x : ℕ) (past : List Entry) → IsAccepted t past → unwrap_or (cond (nat_lt x (length t.cells)) (Some (cell_value x past)) None) 0 ≡ cell_value x past
-shown_cell t x past acc =
-    elim (nat_lt x (length t.cells)) as (λ b. nat_lt x (length t.cells) ≡ b → unwrap_or (cond b (Some (cell_value x past)) None) 0 ≡ cell_value x past) [
-      | true ↦ λ e. refl
-      | false ↦ λ e. (let far : length t.cells ≤ x = grind arith in sym (cell_none t x past acc far))
-    ] refl
+issued_shown s h q st = shown q (length s.setup.takers) (issued q (reverse h)) (issued_none s.setup q (reverse h) st.accepted)
 
 -- the value of a cell that a world shows, or 0, is that of its history
 pub cell_shown : (s : State) (h : List Entry) (x : ℕ) → StandsFor s h
     → unwrap_or (cond (nat_lt x (length s.setup.cells)) (Some (cell_value x (reverse h))) None) 0 ≡ cell_value x (reverse h)
-cell_shown s h x st = shown_cell s.setup x (reverse h) st.accepted
+cell_shown s h x st = shown x (length s.setup.cells) (cell_value x (reverse h)) (cell_none s.setup x (reverse h) st.accepted)
 
 -- there are at most 256 cells, so a cell with a greater number has the value 0
 pub far_cell : (s : State) (h : List Entry) (x : ℕ) → StandsFor s h → 256 ≤ x → cell_value x (reverse h) ≡ 0

@@ -13,7 +13,7 @@ use Rattle.ec_trace.specs.TraceModel.{TraceModel}
 use Rattle.ec_trace.specs.ReadingLaws.{UpgradesTo}
 use Rattle.ec_trace.proofs.shared.UpgradedTraces.{traces_are_upgraded}
 use Rattle.evc_engine.specs.declared.status.Status.{Status}
-use Rattle.evc_engine.specs.declared.status.Status.TheVariants.{Done, Refused, Usage, InputOutput, Memory, Stopped}
+use Rattle.evc_engine.specs.declared.status.Status.TheVariants.{Done, InputOutput}
 use Rattle.ec_heading.specs.declared.group.Group.{Group}
 use Rattle.ec_heading.specs.declared.group.Group.TheVariants as groups
 use Rattle.evc_engine.specs.declared.audit_result.AuditResult.{AuditResult}
@@ -27,18 +27,10 @@ use Rattle.evc_engine.specs.Upgrades.{Rewrites, IsUpgraded, Upgrades, TextsHaveN
 -- what the audit of a group finds does not depend on the version
 found_alike : (h : HeadingModel) (v : Version) (entries : List Entry) (g : Group) (a : AuditResult) → IsFound h entries g a → IsFound (record h { version = v }) entries g a
 found_alike h v entries (groups.Buffer b) (audits.Deliveries list) p = p
-found_alike h v entries (groups.Buffer b) (audits.Versions list) p = absurd p
-found_alike h v entries (groups.Buffer b) (audits.Balances m n) p = absurd p
-found_alike h v entries (groups.Buffer b) (audits.Pairs m n list) p = absurd p
 found_alike h v entries (groups.Database d) (audits.Versions list) p = p
-found_alike h v entries (groups.Database d) (audits.Deliveries list) p = absurd p
-found_alike h v entries (groups.Database d) (audits.Balances m n) p = absurd p
-found_alike h v entries (groups.Database d) (audits.Pairs m n list) p = absurd p
 found_alike h v entries (groups.Semaphore s) (audits.Balances m n) p = p
-found_alike h v entries (groups.Semaphore s) (audits.Deliveries list) p = absurd p
-found_alike h v entries (groups.Semaphore s) (audits.Versions list) p = absurd p
-found_alike h v entries (groups.Semaphore s) (audits.Pairs m n list) p = absurd p
-found_alike h v entries (groups.Both c) a p = p
+found_alike h v entries (groups.Both c) (audits.Pairs m n list) p = p
+found_alike h v entries g a p = p
 
 -- the text of `check` depends only on the declarations and the history
 checked_same : (h : HeadingModel) (v : Version) (entries : List Entry) → check_text (record h { version = v }) entries ≡ check_text h entries
@@ -86,10 +78,7 @@ upgraded_so bytes left t Done old new reads ends =
     (t, text_in_two bytes t reads, is_upgraded bytes t reads, ends.0 reads.trace.outline reads.trace.trace.heading reads.trace.declares, ends.1)
 upgraded_so bytes left t InputOutput old new reads ends =
     inl (t, text_in_two bytes t reads, is_upgraded bytes t reads, ends.0 reads.trace.outline reads.trace.trace.heading reads.trace.declares, ends.1)
-upgraded_so bytes left t Refused old new reads ends = absurd ends
-upgraded_so bytes left t Usage old new reads ends = absurd ends
-upgraded_so bytes left t Memory old new reads ends = absurd ends
-upgraded_so bytes left t Stopped old new reads ends = absurd ends
+upgraded_so bytes left t status old new reads ends = absurd ends
 
 -- an upgraded syntax tree declares the upgraded header, so what is written for that header is its
 -- trace

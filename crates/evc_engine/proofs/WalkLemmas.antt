@@ -49,10 +49,7 @@ stands_first t all (groups.Buffer b) (audits.Deliveries a) represents = (ap grou
 stands_first t all (groups.Database d) (audits.Versions a) represents = (ap groups.Database represents.0, (refl, refl, represents.2))
 stands_first t all (groups.Semaphore s) (audits.Balance a) represents = (ap groups.Semaphore represents.0, (refl, represents.1))
 stands_first t all (groups.Both c) (audits.Both a) represents = (ap groups.Both represents.2, ((refl, represents.1), (refl, refl, represents.4), represents.5 ∙ sym represents.0))
-stands_first t all (groups.Buffer b) a represents = absurd represents
-stands_first t all (groups.Database d) a represents = absurd represents
-stands_first t all (groups.Semaphore s) a represents = absurd represents
-stands_first t all (groups.Both c) a represents = absurd represents
+stands_first t all g a represents = absurd represents
 
 pub walk_begins : (t : Tables) (all : List Semaphore) (gs : List Group) (list : List Auditing) → EachRepresents t all gs list [] → AreIndependent group_of AuditsOn gs list list []
 walk_begins t all gs list each = λ i g at. (let here = each i g at in let first = stands_first t all g here.0 here.2 in (here.0, here.0, here.1, here.1, first.0, first.1))
@@ -68,10 +65,7 @@ stands_last t all (groups.Buffer s) (audits.Deliveries a) b past represents on =
 stands_last t all (groups.Database d) (audits.Versions a) b past represents on = absurd on
 stands_last t all (groups.Semaphore s) (audits.Balance a) b past represents on = absurd on
 stands_last t all (groups.Both c) (audits.Both a) b past represents on = absurd on
-stands_last t all (groups.Buffer s) a b past represents on = absurd represents
-stands_last t all (groups.Database d) a b past represents on = absurd represents
-stands_last t all (groups.Semaphore s) a b past represents on = absurd represents
-stands_last t all (groups.Both c) a b past represents on = absurd represents
+stands_last t all g a b past represents on = absurd represents
 
 pub walk_ends : (t : Tables) (all : List Semaphore) (gs : List Group) (starts list : List Auditing) (past : List Entry)
     → EachRepresents t all gs starts [] → AreIndependent group_of AuditsOn gs starts list past → EachRepresents t all gs list past

@@ -47,11 +47,9 @@ abbrev pub balance_of : Balance → ℕ
 balance_of b = b.initial + b.ups - b.downs
 
 -- the parts of a balance, and the balance
-abbrev pub balance_words : Balance → ℕ → List ℕ
-balance_words b now = word_after_space (decimal b.initial) ++ word_after_space (decimal b.downs) ++ word_after_space (decimal b.ups) ++ word_after_space (decimal now)
-
 abbrev pub balance_line : List ℕ → Balance → ℕ → List ℕ
-balance_line name b now = codes "balance " ++ name ++ balance_words b now
+balance_line name b now =
+    codes "balance " ++ name ++ word_after_space (decimal b.initial) ++ word_after_space (decimal b.downs) ++ word_after_space (decimal b.ups) ++ word_after_space (decimal now)
 
 -- the name of a semaphore, and a ticket of it
 abbrev pub ticket_words : List ℕ → ℕ → List ℕ

@@ -5,7 +5,6 @@ use Rattle.ec_core.specs.declared.act.Entry.{Entry}
 use Rattle.ec_core.specs.Following.{BreaksAt}
 use Rattle.ec_buffer.specs.Items.{AreDeliveries}
 use Rattle.ec_database.specs.Tries.{ListsTries, AreUndisturbed}
-use Rattle.ec_semaphore.specs.Shapes.{Semaphore}
 use Rattle.ec_semaphore.specs.Balances.{balance_parts}
 use Rattle.ec_semaphore.specs.Pairs.{pairs_of}
 use Rattle.ec_text.specs.Puts.{AppendsPrefix}
@@ -23,7 +22,7 @@ use Rattle.ec_core.specs.declared.audit.AuditFault.{AuditFault}
 use Rattle.ec_core.specs.declared.audit.AuditFault.TheVariants.{NotFollowed}
 use Rattle.ec_core.specs.declared.audit.AuditFault.TheVariants as faults
 use Rattle.evc_engine.specs.declared.status.Status.{Status}
-use Rattle.evc_engine.specs.declared.status.Status.TheVariants.{Done, Refused, Usage, InputOutput, Memory, Stopped}
+use Rattle.evc_engine.specs.declared.status.Status.TheVariants.{Done, Refused, InputOutput, Memory}
 use Rattle.evc_engine.specs.AuditTexts.{balance_of, audit_text, group_word, worker_word}
 use Rattle.evc_engine.specs.Checks.{Outputs, Notes, KeepsNotes, ReadsAs, RefusedFor}
 use Rattle.evc_engine.specs.Notes.{fault_note, break_note}
@@ -40,18 +39,13 @@ pub record IsNotFollowed (h : HeadingModel) (entries : List Entry) (i w k : ℕ)
 
 -- WHAT AN AUDIT FINDS
 
--- what the audit of `both` finds, with these semaphores
-abbrev pub IsPairsOf : List Entry → Semaphore → List Semaphore → AuditResult → Type 0
-IsPairsOf entries c semaphores (audits.Pairs balance now list) =
-    (balance ≡ balance_parts c (reverse entries)) × (now ≡ balance_of balance) × (list.items ≡ pairs_of c semaphores entries)
-IsPairsOf entries c semaphores a = ⊥
-
 -- what the audit of a group found is what the history says
 abbrev pub IsFound : HeadingModel → List Entry → Group → AuditResult → Type 0
 IsFound h entries (groups.Buffer b) (audits.Deliveries list) = AreDeliveries h.setup b entries list.items
 IsFound h entries (groups.Database d) (audits.Versions tries) = ListsTries h.setup d entries tries.list × AreUndisturbed h.setup d entries tries.list
 IsFound h entries (groups.Semaphore s) (audits.Balances balance now) = (balance ≡ balance_parts s (reverse entries)) × (now ≡ balance_of balance)
-IsFound h entries (groups.Both c) a = IsPairsOf entries c (semaphores_of h.groups) a
+IsFound h entries (groups.Both c) (audits.Pairs balance now list) =
+    (balance ≡ balance_parts c (reverse entries)) × (now ≡ balance_of balance) × (list.items ≡ pairs_of c (semaphores_of h.groups) entries)
 IsFound h entries g a = ⊥
 
 -- the workers follow the rules of a group, and this is what its audit found
@@ -107,28 +101,18 @@ pub record NamesFirstBreak (t : TraceModel) (old new : Outputs) : Type 0 where
   pub out : Keeps old.out new.out
   pub note : Notes old new (not_followed_note t.heading group worker entry)
 
--- how the audit of a trace ended
-abbrev pub AuditEnds : TraceModel → Status → Outputs → Outputs → Type 0
-AuditEnds t Done old new = Reports t Done old new
-AuditEnds t Refused old new = NamesFirstBreak t old new
-AuditEnds t InputOutput old new = Reports t InputOutput old new
-AuditEnds t Memory old new = Keeps old.out new.out × Notes old new (codes "no memory\n")
-AuditEnds t Usage old new = ⊥
-AuditEnds t Stopped old new = ⊥
-
 -- how `audit` ended: the bytes are a trace whose workers follow the rules of each group, and what
 -- the audits found was written; or they are a trace with a group whose rules are broken, or no
 -- trace, and nothing was written but the note on the first such group or the first fault; or a
 -- failed read is reported, and what the reader had returned until then has no fault; or a failed
 -- write is reported, or that memory ran out
 abbrev pub Audits : List ℕ → Option (List ℕ) → Status → Outputs → Outputs → Type 0
-Audits bytes left Done old new = (t : TraceModel) × ReadsAs bytes t × AuditEnds t Done old new
+Audits bytes left Done old new = (t : TraceModel) × ReadsAs bytes t × Reports t Done old new
 Audits bytes left Refused old new =
-    ((t : TraceModel) × ReadsAs bytes t × AuditEnds t Refused old new)
+    ((t : TraceModel) × ReadsAs bytes t × NamesFirstBreak t old new)
     ⊎ ((fault : TraceFault) × RefusedFor bytes fault × Keeps old.out new.out × Notes old new (fault_note fault))
 Audits bytes left InputOutput old new =
-    ((t : TraceModel) × ReadsAs bytes t × AuditEnds t InputOutput old new)
+    ((t : TraceModel) × ReadsAs bytes t × Reports t InputOutput old new)
     ⊎ (HasNoFault TRACE_MAX bytes left × Keeps old.out new.out × Notes old new (codes "read fault\n"))
 Audits bytes left Memory old new = Keeps old.out new.out × Notes old new (codes "no memory\n")
-Audits bytes left Usage old new = ⊥
-Audits bytes left Stopped old new = ⊥
+Audits bytes left status old new = ⊥

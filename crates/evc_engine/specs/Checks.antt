@@ -11,7 +11,7 @@ use Rattle.ec_trace.specs.ReadingLaws.{IsTraceOf, IsNoTrace}
 use Rattle.ec_trace.specs.declared.fault.TraceFault.{TraceFault}
 use Rattle.ec_trace.specs.declared.read.TheConstants.{TRACE_MAX}
 use Rattle.evc_engine.specs.declared.status.Status.{Status}
-use Rattle.evc_engine.specs.declared.status.Status.TheVariants.{Done, Refused, Usage, InputOutput, Memory, Stopped}
+use Rattle.evc_engine.specs.declared.status.Status.TheVariants.{Done, Refused, InputOutput, Memory}
 use Rattle.evc_engine.specs.Notes.{fault_note}
 use Rattle.evc_engine.specs.Texts.{check_lines, check_text}
 
@@ -45,9 +45,7 @@ abbrev pub Writes : TraceModel → Status → Outputs → Outputs → Type 0
 Writes t Done old new = Appends old.out new.out (text_for t) × HasLinearization t (text_for t) × KeepsNotes old new
 Writes t InputOutput old new = AppendsPrefix old.out new.out (text_for t) × Notes old new (codes "write fault\n")
 Writes t Memory old new = Keeps old.out new.out × Notes old new (codes "no memory\n")
-Writes t Refused old new = ⊥
-Writes t Usage old new = ⊥
-Writes t Stopped old new = ⊥
+Writes t status old new = ⊥
 
 -- the bytes are a trace, with this header and this history, and they are read as such
 pub record ReadsAs (bytes : List ℕ) (t : TraceModel) : Type 0 where
@@ -71,5 +69,4 @@ Checks bytes left InputOutput old new =
     ((t : TraceModel) × ReadsAs bytes t × Writes t InputOutput old new)
     ⊎ (HasNoFault TRACE_MAX bytes left × Keeps old.out new.out × Notes old new (codes "read fault\n"))
 Checks bytes left Memory old new = Keeps old.out new.out × Notes old new (codes "no memory\n")
-Checks bytes left Usage old new = ⊥
-Checks bytes left Stopped old new = ⊥
+Checks bytes left status old new = ⊥

@@ -30,22 +30,11 @@ fault_note Memory = codes "no memory\n"
 
 -- the status of a command that could not read its trace
 abbrev pub fault_status : TraceFault → Status
-fault_status (BadLine n) = statuses.Refused
-fault_status (Refused n r) = statuses.Refused
-fault_status (WrongReply n right) = statuses.Refused
-fault_status Unfinished = statuses.Refused
-fault_status TooLarge = statuses.Refused
 fault_status Read = statuses.InputOutput
 fault_status Memory = statuses.Memory
+fault_status fault = statuses.Refused
 
--- the worker of the entry that breaks the rules of a group, and the entry
-abbrev pub breaker_words : List ℕ → ℕ → List ℕ
-breaker_words worker k = worker ++ codes " entry " ++ decimal k ++ codes "\n"
-
--- the group, and what is wrong with it
-abbrev pub broken_words : List ℕ → List ℕ
-broken_words group = group ++ codes " not followed: worker "
-
--- the note on a group whose rules are broken
+-- the note on a group whose rules are broken: the group, and the entry that breaks them, after its
+-- worker
 abbrev pub break_note : List ℕ → List ℕ → ℕ → List ℕ
-break_note group worker k = broken_words group ++ breaker_words worker k
+break_note group worker k = group ++ codes " not followed: worker " ++ worker ++ codes " entry " ++ decimal k ++ codes "\n"

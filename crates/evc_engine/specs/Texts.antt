@@ -1,6 +1,6 @@
 -- The text that `check` writes: the calls in the order of their linearization points, and the
 -- totals at the end.
-use Rattle.std.specs.Prelude.{ℕ, ◌+◌, zero, suc, List, [], ◌∷◌, ◌++◌, map, reverse, Option, Some, None, codes, decimal}
+use Rattle.std.specs.Prelude.{ℕ, ◌+◌, zero, suc, List, [], ◌∷◌, ◌++◌, map, reverse, codes, decimal}
 use Rattle.std.specs.List.{flat_map}
 use Rattle.ec_count.specs.declared.target.Target.{Target}
 use Rattle.ec_count.specs.declared.target.Target.TheVariants.{Worker, Event, Sequencer, Cells, Group}
@@ -21,7 +21,7 @@ abbrev pub linearized_line : NameTable → LinearizedEntry → List ℕ
 linearized_line names d = decimal d.point ++ codes " " ++ entry_line names d.entry
 
 abbrev pub cell_line : List ℕ → ℕ → ℕ → List ℕ
-cell_line name i value = codes "cell " ++ (name ++ codes "[" ++ decimal i ++ codes "]") ++ codes " " ++ decimal value
+cell_line name i value = codes "cell " ++ name ++ codes "[" ++ decimal i ++ codes "] " ++ decimal value
 
 -- the lines of n cells of a block, from its cell i on, if the block begins at cell first
 unfoldable pub cell_lines : List ℕ → List Entry → ℕ → ℕ → ℕ → List (List ℕ)
@@ -39,22 +39,14 @@ totals_of past word (Cells first n) = cell_lines word past first 0 n
 totals_of past word (Worker w) = []
 totals_of past word (Group g) = []
 
--- the totals of the target of a word of the symbol table, if there is one
-abbrev pub totals_at : List Entry → Option (List ℕ × Target) → List (List ℕ)
-totals_at past None = []
-totals_at past (Some (word, target)) = totals_of past word target
-
--- the totals of the targets of these words
+-- the totals of the targets of these words: in the order of the declarations, and of the objects of
+-- each
 abbrev pub totals_by : List Entry → NameTable → List (List ℕ)
 totals_by past words = flat_map (λ (e : List ℕ × Target). totals_of past e.0 e.1) words
 
--- the totals, in the order of the declarations and of the objects of each
-abbrev pub totals_lines : HeadingModel → List Entry → List (List ℕ)
-totals_lines h past = totals_by past h.words
-
 -- the lines of these calls between the first line and the totals
 abbrev pub order_lines : HeadingModel → List Entry → List (List ℕ) → List (List ℕ)
-order_lines h entries calls = codes "evc-order 1" ∷ calls ++ codes "totals" ∷ totals_lines h (reverse entries) ++ codes "end" ∷ []
+order_lines h entries calls = codes "evc-order 1" ∷ calls ++ codes "totals" ∷ totals_by (reverse entries) h.words ++ codes "end" ∷ []
 
 abbrev pub check_lines : HeadingModel → List Entry → List Placed → List (List ℕ)
 check_lines h entries placed = order_lines h entries (map (placed_line h.words) placed)

@@ -15,7 +15,7 @@ use Rattle.ec_trace.specs.declared.fault.TraceFault.{TraceFault}
 use Rattle.ec_trace.specs.declared.read.TheConstants.{TRACE_MAX}
 use Rattle.evc_engine.specs.declared.audit_result.AuditResult.{AuditResult}
 use Rattle.evc_engine.specs.declared.status.Status.{Status}
-use Rattle.evc_engine.specs.declared.status.Status.TheVariants.{Done, Refused, Usage, InputOutput, Memory, Stopped}
+use Rattle.evc_engine.specs.declared.status.Status.TheVariants.{Done, Refused, InputOutput, Memory}
 use Rattle.evc_engine.specs.AuditTexts.{audit_text}
 use Rattle.evc_engine.specs.Audits.{AreAudited, IsNotFollowed, not_followed_note}
 use Rattle.evc_engine.specs.Texts.{check_text}
@@ -57,8 +57,7 @@ Upgrades bytes left InputOutput old new =
     ((t : TraceModel) × (text : List ℕ) × IsUpgraded bytes text t × AppendsPrefix old.out new.out text × Notes old new (codes "write fault\n"))
     ⊎ (HasNoFault TRACE_MAX bytes left × Keeps old.out new.out × Notes old new (codes "read fault\n"))
 Upgrades bytes left Memory old new = Keeps old.out new.out × Notes old new (codes "no memory\n")
-Upgrades bytes left Usage old new = ⊥
-Upgrades bytes left Stopped old new = ⊥
+Upgrades bytes left status old new = ⊥
 
 -- THEOREMS
 

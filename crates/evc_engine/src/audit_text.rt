@@ -3,7 +3,7 @@ ghost use Rattle.std.specs.Prelude.{◌≡◌, ◌∷◌, [], ◌++◌, ◌+◌,
 ghost use Rattle.std.specs.Io.KnownBytes.{Appends};
 ghost use Rattle.ec_text.specs.Puts.{Puts, AppendsPrefix};
 ghost use Rattle.ec_heading.specs.Spelling.{lines_text};
-ghost use Rattle.evc_engine.specs.AuditTexts.{word_after_space, delivered_words, delivery_line, spaced_numbers, version_words, version_line, balance_words, balance_line, ticket_words, pair_line, group_word, is_line_of, semaphore_word, audited_lines, groups_lines, audit_text};
+ghost use Rattle.evc_engine.specs.AuditTexts.{word_after_space, delivered_words, delivery_line, spaced_numbers, version_words, version_line, balance_line, ticket_words, pair_line, group_word, semaphore_word, audited_lines, groups_lines, audit_text};
 
 use crate::audit_result::AuditResult;
 use ec_buffer::Delivery;
@@ -55,6 +55,19 @@ fn put_delivery<W: Write>(
     out.put(b"\n");
 }
 
+/// Puts what follows the name in the line of an accepted try.
+fn put_accepted<W: Write>(
+    out: &mut Output<'_, W>,
+    spellings: &Spellings<'_>,
+    accepted: &TryView<'_>,
+)
+    ensures { Puts out.old out.new (version_words spellings.now accepted.now) }
+{
+    put_spaced_number(out, accepted.version());
+    put_spaced(out, spellings.worker(accepted.worker()));
+    put_values(out, accepted);
+}
+
 /// Puts the line of an accepted try.
 fn put_version<W: Write>(
     out: &mut Output<'_, W>,
@@ -70,19 +83,6 @@ fn put_version<W: Write>(
     out.put(b"\n");
 }
 
-/// Puts what follows the name in the line of an accepted try.
-fn put_accepted<W: Write>(
-    out: &mut Output<'_, W>,
-    spellings: &Spellings<'_>,
-    accepted: &TryView<'_>,
-)
-    ensures { Puts out.old out.new (version_words spellings.now accepted.now) }
-{
-    put_spaced_number(out, accepted.version());
-    put_spaced(out, spellings.worker(accepted.worker()));
-    put_values(out, accepted);
-}
-
 /// Puts the values of an accepted try, each after a space.
 fn put_values<W: Write>(out: &mut Output<'_, W>, accepted: &TryView<'_>)
     ensures { Puts out.old out.new (spaced_numbers accepted.now.values) }
@@ -94,32 +94,17 @@ fn put_values<W: Write>(out: &mut Output<'_, W>, accepted: &TryView<'_>)
     }
 }
 
-/// Puts what follows the name in the line of a balance.
-fn put_parts<W: Write>(out: &mut Output<'_, W>, balance: &Balance, now: u64)
-    ensures { Puts out.old out.new (balance_words balance.now now) }
-{
-    put_spaced_number(out, balance.initial);
-    put_spaced_number(out, balance.downs);
-    put_spaced_number(out, balance.ups);
-    put_spaced_number(out, now);
-}
-
 /// Puts the line of a balance.
 fn put_balance<W: Write>(out: &mut Output<'_, W>, name: &[u8], balance: &Balance, now: u64)
     ensures { Puts out.old out.new (balance_line name.now balance.now now ++ 10 ∷ []) }
 {
     out.put(b"balance ");
     out.put(name);
-    put_parts(out, balance, now);
+    put_spaced_number(out, balance.initial);
+    put_spaced_number(out, balance.downs);
+    put_spaced_number(out, balance.ups);
+    put_spaced_number(out, now);
     out.put(b"\n");
-}
-
-/// Puts the name of a semaphore, and a ticket of it.
-fn put_ticket<W: Write>(out: &mut Output<'_, W>, semaphore: &[u8], ticket: u64)
-    ensures { Puts out.old out.new (ticket_words semaphore.now ticket) }
-{
-    put_spaced(out, semaphore);
-    put_spaced_number(out, ticket);
 }
 
 /// Returns the name of a group. The one without a name is `both`.
@@ -129,16 +114,6 @@ pub(crate) fn group_word(names: &Names, group: usize) -> &[u8]
     match names.name_of(Target::Group(group)) {
         Some(name) => name.as_bytes(),
         None => b"both".as_slice(),
-    }
-}
-
-/// Returns whether a group is the semaphore of this sequencer.
-fn is_line_of(sequencer: SeqId, group: &Group) -> bool
-    ensures { result ≡ is_line_of sequencer group.now }
-{
-    match group {
-        Group::Semaphore(shape) => shape.line() == sequencer,
-        _ => false,
     }
 }
 
@@ -152,10 +127,18 @@ fn semaphore_word<'a>(names: &'a Names, from: usize, groups: &[Group], sequencer
     let [group, rest @ ..] = groups else {
         return b"".as_slice();
     };
-    if is_line_of(sequencer, group) {
-        return group_word(names, from);
+    match group {
+        Group::Semaphore(shape) if shape.line() == sequencer => group_word(names, from),
+        _ => semaphore_word(names, from + 1, rest, sequencer),
     }
-    semaphore_word(names, from + 1, rest, sequencer)
+}
+
+/// Puts the name of a semaphore, and a ticket of it.
+fn put_ticket<W: Write>(out: &mut Output<'_, W>, semaphore: &[u8], ticket: u64)
+    ensures { Puts out.old out.new (ticket_words semaphore.now ticket) }
+{
+    put_spaced(out, semaphore);
+    put_spaced_number(out, ticket);
 }
 
 /// Puts the line of a pair of tickets.

@@ -1,11 +1,11 @@
 //! `audit`: reads a trace, and writes what the audits of its groups found.
-ghost use Rattle.std.specs.Prelude.{◌≡◌, ℕ, List, Option, ◌++◌, ◌∷◌, [], IfSome, IfOk, IfErr, OnOk};
+ghost use Rattle.std.specs.Prelude.{◌≡◌, ℕ, List, Option, IfSome, IfOk, IfErr};
 ghost use Rattle.ec_core.specs.declared.act.Entry.{Entry};
 ghost use Rattle.ec_heading.specs.HeadingModel.{HeadingModel};
 ghost use Rattle.ec_trace.specs.Reading.{IsOpened};
 ghost use Rattle.ec_text.specs.Puts.{Puts, IsWrittenOut};
 ghost use Rattle.evc_engine.specs.Walks.{EachEndsFor};
-ghost use Rattle.evc_engine.specs.Halts.{FindsIn};
+ghost use Rattle.evc_engine.specs.Halts.{IsOf};
 ghost use Rattle.evc_engine.specs.Audits.{AreAudited, IsStop, stop_status, stop_note, Audits};
 
 use crate::audit_result::AuditResult;
@@ -21,7 +21,7 @@ use ec_trace::{
     semaphores_of,
 };
 use ec_walk::GroupAudits;
-use std::alloc::{AllocError, Global};
+use std::alloc::Global;
 use std::io::{Read, Write};
 
 /// Why a trace that was read has no text: the fault of the audit of a group.
@@ -29,23 +29,6 @@ use std::io::{Read, Write};
 struct Stop {
     group: usize,
     fault: AuditFault,
-}
-
-/// Why there is no text: the fault of a group's audit, the fault of the trace, or that memory ran
-/// out for the audits.
-#[derive(Drop)]
-enum Halt {
-    Stopped(Stop),
-    Unread(TraceFault),
-    Memory,
-}
-
-/// Adds what an audit found.
-fn push_result(found: &mut Vec<AuditResult>, audited: AuditResult) -> Result<(), AllocError>
-    ensures { OnOk result (found.new.items ≡ found.old.items ++ audited ∷ []) }
-{
-    found.push(audited)?;
-    Ok(())
 }
 
 /// Returns what the audits of groups found, in the order of the groups; or the fault of the first
@@ -69,41 +52,11 @@ fn found_by(
             Ok(audited) => audited,
             Err(fault) => return Err(Stop { group, fault }),
         };
-        let Ok(()) = push_result(&mut found, audited) else {
+        let Ok(()) = found.push(audited) else {
             return Err(Stop { group, fault });
         };
     }
     Ok(found)
-}
-
-/// Reads the entries of a trace, and passes each to the audits of the groups. Returns what these
-/// found, or why there is no text.
-fn found_in<R: Read>(
-    alloc: Global,
-    heading: &Heading,
-    lines: Lines,
-    reader: &mut R,
-) -> Result<Vec<AuditResult>, Halt>
-    ensures { (bytes : List ℕ) → IsOpened bytes (R.remaining reader.old) lines heading.now → FindsIn bytes (R.remaining reader.new) heading.now result }
-{
-    heading.invariant();
-    let groups = heading.groups();
-    let Ok(semaphores) = semaphores_of(alloc, groups) else {
-        return Err(Halt::Memory);
-    };
-    let Ok(audits) = open_audits(alloc, groups, heading.setup(), semaphores.as_slice()) else {
-        return Err(Halt::Memory);
-    };
-    let mut watched = AuditedWorld::new(heading.setup().copy(), GroupAudits::new(groups, audits));
-    if let Err(fault) = read_entries(alloc, lines, reader, heading, &mut watched) {
-        return Err(Halt::Unread(fault));
-    }
-    let (_world, walked) = watched.into_parts();
-    let audits = walked.into_audits();
-    match found_by(alloc, groups, audits) {
-        Ok(found) => Ok(found),
-        Err(stop) => Err(Halt::Stopped(stop)),
-    }
 }
 
 /// Reports the fault of a group's audit, and returns the status.
@@ -117,33 +70,26 @@ fn note_stop<N: Write>(heading: &Heading, stop: Stop, notes: &mut Output<'_, N>)
             report_not_followed(notes, heading, stop.group, *worker, *entry);
             Status::Refused
         }
-        AuditFault::Memory => {
-            notes.say(b"no memory\n");
-            Status::Memory
-        }
+        AuditFault::Memory => note_unread(&TraceFault::Memory, notes),
     }
 }
 
-/// Writes what the audits of a trace's groups found, or reports why there is nothing to write.
+/// Writes what the audits of a trace's groups found, or reports the fault of the first that has one.
 fn write_found<W: Write, N: Write>(
+    alloc: Global,
     heading: &Heading,
-    found: Result<Vec<AuditResult>, Halt>,
+    audits: Vec<Auditing<'_>>,
     out: &mut W,
     notes: &mut Output<'_, N>,
 ) -> Status
-    ensures ends { (bytes : List ℕ) (left : Option (List ℕ)) → FindsIn bytes left heading.now found → Audits bytes left result
+    ensures ends { (bytes : List ℕ) (left : Option (List ℕ)) (entries : List Entry) → IsOf bytes heading.now entries → EachEndsFor heading.now entries audits.entry.items → Audits bytes left result
         (record { out = W.contents out.old; notes = notes.old })
         (record { out = W.contents out.new; notes = notes.new }) }
     ensures written { IsWrittenOut notes.old → IsWrittenOut notes.new }
 {
-    let found = match found {
+    let found = match found_by(alloc, heading.groups(), audits) {
         Ok(found) => found,
-        Err(Halt::Stopped(stop)) => return note_stop(heading, stop, notes),
-        Err(Halt::Unread(fault)) => return note_unread(&fault, notes),
-        Err(Halt::Memory) => {
-            notes.say(b"no memory\n");
-            return Status::Memory;
-        }
+        Err(stop) => return note_stop(heading, stop, notes),
     };
     match write_audit(out, heading, found.as_slice()) {
         Ok(()) => Status::Done,
@@ -152,6 +98,37 @@ fn write_found<W: Write, N: Write>(
             Status::InputOutput
         }
     }
+}
+
+/// Reads the entries of a trace, passes each to the audits of the groups, and writes what these
+/// found, or reports why there is nothing to write.
+fn audit_entries<R: Read, W: Write, N: Write>(
+    alloc: Global,
+    heading: &Heading,
+    lines: Lines,
+    reader: &mut R,
+    out: &mut W,
+    notes: &mut Output<'_, N>,
+) -> Status
+    ensures ends { (bytes : List ℕ) → IsOpened bytes (R.remaining reader.old) lines heading.now → Audits bytes (R.remaining reader.new) result
+        (record { out = W.contents out.old; notes = notes.old })
+        (record { out = W.contents out.new; notes = notes.new }) }
+    ensures written { IsWrittenOut notes.old → IsWrittenOut notes.new }
+{
+    heading.invariant();
+    let groups = heading.groups();
+    let Ok(semaphores) = semaphores_of(alloc, groups) else {
+        return note_unread(&TraceFault::Memory, notes);
+    };
+    let Ok(audits) = open_audits(alloc, groups, heading.setup(), semaphores.as_slice()) else {
+        return note_unread(&TraceFault::Memory, notes);
+    };
+    let mut watched = AuditedWorld::new(heading.setup().copy(), GroupAudits::new(groups, audits));
+    if let Err(fault) = read_entries(alloc, lines, reader, heading, &mut watched) {
+        return note_unread(&fault, notes);
+    }
+    let (_world, walked) = watched.into_parts();
+    write_found(alloc, heading, walked.into_audits(), out, notes)
 }
 
 /// Reads a trace, and writes what its buffers, databases and semaphores did, group by group in the
@@ -172,10 +149,10 @@ pub fn audit<R: Read, W: Write, N: Write>(
         (record { out = W.contents out.new; notes = notes.new })) }
     ensures written { IsWrittenOut notes.old → IsWrittenOut notes.new }
 {
-    let TraceOpening { heading, lines } = match open_trace(alloc, reader) {
-        Ok(opened) => opened,
-        Err(fault) => return note_unread(&fault, notes),
-    };
-    let found = found_in(alloc, &heading, lines, reader);
-    write_found(&heading, found, out, notes)
+    match open_trace(alloc, reader) {
+        Ok(TraceOpening { heading, lines }) => audit_entries(
+            alloc, &heading, lines, reader, out, notes,
+        ),
+        Err(fault) => note_unread(&fault, notes),
+    }
 }

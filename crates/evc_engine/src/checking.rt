@@ -10,27 +10,11 @@ ghost use Rattle.evc_engine.specs.Notes.{fault_note, fault_status};
 use crate::notes::report_fault;
 use crate::status::Status;
 use crate::text::write_text;
-use ec_core::World;
 use ec_order::Linearizer;
 use ec_text::Output;
 use ec_trace::{AuditedWorld, Heading, Lines, TraceFault, TraceOpening, open_trace, read_entries};
 use std::alloc::Global;
 use std::io::{Read, Write};
-
-/// Returns the status of a command that could not read its trace.
-pub(crate) fn status_of(fault: &TraceFault) -> Status
-    ensures { result ≡ fault_status fault.now }
-{
-    match *fault {
-        TraceFault::BadLine(_) => Status::Refused,
-        TraceFault::Refused(_, _) => Status::Refused,
-        TraceFault::WrongReply(_, _) => Status::Refused,
-        TraceFault::Unfinished => Status::Refused,
-        TraceFault::TooLarge => Status::Refused,
-        TraceFault::Read => Status::InputOutput,
-        TraceFault::Memory => Status::Memory,
-    }
-}
 
 /// Reports why a trace was not read, and returns the status of the command.
 pub fn note_unread<N: Write>(fault: &TraceFault, notes: &mut Output<'_, N>) -> Status
@@ -39,32 +23,10 @@ pub fn note_unread<N: Write>(fault: &TraceFault, notes: &mut Output<'_, N>) -> S
     ensures written { IsWrittenOut notes.new }
 {
     report_fault(notes, fault);
-    status_of(fault)
-}
-
-/// Writes the text of a trace, from the world and the linearizer after its last entry.
-fn write_order<W: Write, N: Write>(
-    heading: &Heading,
-    world: &World,
-    linearizer: &Linearizer<'_>,
-    out: &mut W,
-    notes: &mut Output<'_, N>,
-) -> Status
-    ensures ends { (entries : List Entry) → IsReadInto heading.now entries world.now linearizer.now → Writes (record { heading = heading.now; entries = entries }) result
-        (record { out = W.contents out.old; notes = notes.old })
-        (record { out = W.contents out.new; notes = notes.new }) }
-    ensures written { IsWrittenOut notes.old → IsWrittenOut notes.new }
-{
-    let Ok(calls) = linearizer.calls() else {
-        notes.say(b"no memory\n");
-        return Status::Memory;
-    };
-    match write_text(out, heading, world, calls) {
-        Ok(()) => Status::Done,
-        Err(_) => {
-            notes.say(b"write fault\n");
-            Status::InputOutput
-        }
+    match fault {
+        TraceFault::Read => Status::InputOutput,
+        TraceFault::Memory => Status::Memory,
+        _ => Status::Refused,
     }
 }
 
@@ -83,7 +45,16 @@ fn write_linearization<W: Write, N: Write>(
     ensures written { IsWrittenOut notes.old → IsWrittenOut notes.new }
 {
     let (world, linearizer) = watched.into_parts();
-    write_order(heading, &world, &linearizer, out, notes)
+    let Ok(calls) = linearizer.calls() else {
+        return note_unread(&TraceFault::Memory, notes);
+    };
+    match write_text(out, heading, &world, calls) {
+        Ok(()) => Status::Done,
+        Err(_) => {
+            notes.say(b"write fault\n");
+            Status::InputOutput
+        }
+    }
 }
 
 /// Reads the entries of a trace, and writes its text or reports why there is none. (It is not

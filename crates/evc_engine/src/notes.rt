@@ -1,6 +1,6 @@
 //! The notes. A write of notes that fails is not reported, and no other is tried after it.
 ghost use Rattle.ec_text.specs.Puts.{Puts, IsWrittenOut};
-ghost use Rattle.evc_engine.specs.Notes.{fault_note, refused_words, wrong_words, line_words, broken_words, breaker_words, break_note};
+ghost use Rattle.evc_engine.specs.Notes.{fault_note, refused_words, wrong_words, line_words, break_note};
 ghost use Rattle.evc_engine.specs.Audits.{not_followed_note};
 
 use crate::audit_text::group_word;
@@ -67,22 +67,8 @@ fn put_fault<W: Write>(out: &mut Output<'_, W>, fault: &TraceFault)
 fn put_break<W: Write>(out: &mut Output<'_, W>, group: &[u8], worker: &[u8], entry: u64)
     ensures { Puts out.old out.new (break_note group.now worker.now entry) }
 {
-    put_broken(out, group);
-    put_breaker(out, worker, entry);
-}
-
-/// Puts the beginning of the note on a broken rule: the group.
-fn put_broken<W: Write>(out: &mut Output<'_, W>, group: &[u8])
-    ensures { Puts out.old out.new (broken_words group.now) }
-{
     out.put(group);
     out.put(b" not followed: worker ");
-}
-
-/// Puts the end of the note on a broken rule: the worker and the entry.
-fn put_breaker<W: Write>(out: &mut Output<'_, W>, worker: &[u8], entry: u64)
-    ensures { Puts out.old out.new (breaker_words worker.now entry) }
-{
     out.put(worker);
     out.put(b" entry ");
     out.put_number(entry);

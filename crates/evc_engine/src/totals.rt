@@ -1,41 +1,17 @@
 //! The totals of what was declared.
-ghost use Rattle.std.specs.Prelude.{◌≡◌, ◌+◌, ◌∷◌, [], ◌++◌, List, codes, decimal, reverse, slice_get};
+ghost use Rattle.std.specs.Prelude.{◌≡◌, ◌+◌, ◌∷◌, [], ◌++◌, List, reverse};
 ghost use Rattle.ec_text.specs.Puts.{Puts};
-ghost use Rattle.ec_core.specs.Counts.{total, issued, cell_value};
+ghost use Rattle.ec_core.specs.Counts.{cell_value};
 ghost use Rattle.ec_core.specs.Standing.{StandsFor};
 ghost use Rattle.ec_core.specs.declared.act.Entry.{Entry};
 ghost use Rattle.ec_heading.specs.Spelling.{lines_text};
-ghost use Rattle.evc_engine.specs.Texts.{totals_of, totals_at, cell_lines, cell_line, count_line, totals_lines};
+ghost use Rattle.evc_engine.specs.Texts.{totals_of, cell_lines, cell_line, count_line, totals_by};
 
 use ec_core::World;
-use ec_count::{CellId, EventId, SeqId, SymbolTable, Target};
+use ec_count::{CellId, Target};
 use ec_text::Output;
 use ec_trace::Heading;
 use std::io::Write;
-
-/// Returns the total of an eventcount, 0 if it is not declared.
-#[tactic(auto, using(crate::proofs::Undeclared::total_shown))]
-fn total_or_zero(world: &World, event: EventId) -> u64
-    ensures { (h : List Entry) → StandsFor world.now h → result ≡ total event (reverse h) }
-{
-    world.total(event).unwrap_or(0)
-}
-
-/// Returns the tickets that were drawn, 0 if the sequencer is not declared.
-#[tactic(auto, using(crate::proofs::Undeclared::issued_shown))]
-fn issued_or_zero(world: &World, sequencer: SeqId) -> u64
-    ensures { (h : List Entry) → StandsFor world.now h → result ≡ issued sequencer (reverse h) }
-{
-    world.issued(sequencer).unwrap_or(0)
-}
-
-/// Returns the value of a cell, 0 if it is not declared.
-#[tactic(auto, using(crate::proofs::Undeclared::cell_shown))]
-fn cell_or_zero(world: &World, cell: CellId) -> u64
-    ensures { (h : List Entry) → StandsFor world.now h → result ≡ cell_value cell (reverse h) }
-{
-    world.cell(cell).unwrap_or(0)
-}
 
 /// Puts the line of one count.
 fn put_count<W: Write>(out: &mut Output<'_, W>, sort: &[u8], name: &[u8], count: u64)
@@ -48,37 +24,26 @@ fn put_count<W: Write>(out: &mut Output<'_, W>, sort: &[u8], name: &[u8], count:
     out.put(b"\n");
 }
 
-/// Puts the name of one cell of a block, as `C[1]`.
-fn put_cell_name<W: Write>(out: &mut Output<'_, W>, name: &[u8], place: u64)
-    ensures { Puts out.old out.new (name.now ++ codes "[" ++ decimal place ++ codes "]") }
-{
-    out.put(name);
-    out.put(b"[");
-    out.put_number(place);
-    out.put(b"]");
-}
-
-/// Puts the line of one cell.
+/// Puts the line of one cell of a block, as `cell C[1] 5`.
 fn put_cell<W: Write>(out: &mut Output<'_, W>, name: &[u8], place: u64, value: u64)
     ensures { Puts out.old out.new (cell_line name.now place value ++ 10 ∷ []) }
 {
     out.put(b"cell ");
-    put_cell_name(out, name, place);
-    out.put(b" ");
+    out.put(name);
+    out.put(b"[");
+    out.put_number(place);
+    out.put(b"] ");
     out.put_number(value);
     out.put(b"\n");
 }
 
 /// Returns the value of the cell at an index of a block, 0 if it is not declared.
-#[tactic(auto, using(crate::proofs::Undeclared::far_cell))]
+#[tactic(auto, using(crate::proofs::Undeclared::cell_shown, crate::proofs::Undeclared::far_cell))]
 fn value_at(world: &World, first: CellId, place: usize) -> u64
     ensures { (h : List Entry) → StandsFor world.now h → result ≡ cell_value (first + place) (reverse h) }
 {
-    let Some(number) = first.get().checked_add(place) else {
-        return 0;
-    };
-    match CellId::new(number) {
-        Some(cell) => cell_or_zero(world, cell),
+    match CellId::new(first.get().saturating_add(place)) {
+        Some(cell) => world.cell(cell).unwrap_or(0),
         None => 0,
     }
 }
@@ -100,11 +65,11 @@ fn put_target<W: Write>(out: &mut Output<'_, W>, world: &World, word: &[u8], tar
 {
     match *target {
         Target::Event(event) => {
-            let total = total_or_zero(world, event);
+            let total = world.total(event).unwrap_or(0);
             put_count(out, b"eventcount ", word, total);
         }
         Target::Sequencer(sequencer) => {
-            let issued = issued_or_zero(world, sequencer);
+            let issued = world.issued(sequencer).unwrap_or(0);
             put_count(out, b"sequencer ", word, issued);
         }
         Target::Cells(first, n) => put_cells(out, world, word, first, n),
@@ -113,24 +78,16 @@ fn put_target<W: Write>(out: &mut Output<'_, W>, world: &World, word: &[u8], tar
     }
 }
 
-/// Puts the totals of the target of the word at an index of the symbol table, if there is one.
-fn put_place<W: Write>(out: &mut Output<'_, W>, world: &World, words: &SymbolTable, place: usize)
-    ensures { (h : List Entry) → StandsFor world.now h
-        → Puts out.old out.new (lines_text (totals_at (reverse h) (slice_get words.now place))) }
-{
-    if let Some((word, target)) = words.at(place) {
-        put_target(out, world, word, &target);
-    }
-}
-
 /// Puts the totals of all that a header declares: in the order of the declarations, and of the
 /// objects of each.
 pub fn put_totals<W: Write>(out: &mut Output<'_, W>, heading: &Heading, world: &World)
     ensures { (h : List Entry) → StandsFor world.now h
-        → Puts out.old out.new (lines_text (totals_lines heading.now (reverse h))) }
+        → Puts out.old out.new (lines_text (totals_by (reverse h) heading.now.words)) }
 {
     let words = heading.words();
     for place in 0..words.len() {
-        put_place(out, world, words, place);
+        if let Some((word, target)) = words.at(place) {
+            put_target(out, world, word, &target);
+        }
     }
 }

@@ -3,8 +3,7 @@ ghost use Rattle.std.specs.Prelude.{◌≡◌, IfSome};
 ghost use Rattle.evc_engine.specs.Upgrades.{Rewrites, Upgrades};
 ghost use Rattle.ec_text.specs.Puts.{IsWrittenOut};
 
-use crate::checking::status_of;
-use crate::notes::report_fault;
+use crate::checking::note_unread;
 use crate::status::Status;
 use ec_text::Output;
 use ec_trace::{Traced, read_trace, write_trace};
@@ -53,9 +52,6 @@ pub fn upgrade<R: Read, W: Write, N: Write>(
 {
     match read_trace(alloc, reader) {
         Ok(traced) => write_upgraded(traced, out, notes),
-        Err(fault) => {
-            report_fault(notes, &fault);
-            status_of(&fault)
-        }
+        Err(fault) => note_unread(&fault, notes),
     }
 }

@@ -1,10 +1,7 @@
 //! The audits of a trace's groups, in one pass over its entries.
-ghost use Rattle.std.specs.Prelude.{◌≡◌, ◌+◌, ◌^◌, ◌<◌, List, [], ◌∷◌, length, IfOk, MatchResult};
+ghost use Rattle.std.specs.Prelude.{◌≡◌, ◌+◌, ◌^◌, ◌<◌, List, [], IfOk, MatchResult};
 ghost use Rattle.ec_core.specs.declared.act.Entry.{Entry};
 ghost use Rattle.ec_core.specs.Audits.{IsAuditFault};
-ghost use Rattle.ec_core.specs.Calls.{under_way};
-ghost use Rattle.ec_core.specs.Following.{opening_act};
-ghost use Rattle.ec_semaphore.specs.Auditing.{BalanceAuditModel, BalancesOn};
 ghost use Rattle.ec_heading.specs.HeadingModel.{HeadingModel};
 ghost use Rattle.ec_heading.specs.Rules.{group_rules};
 ghost use Rattle.ec_heading.specs.declared.group.Group.{Group};
@@ -47,37 +44,10 @@ impl<'a> BothAudit<'a> {
         ensures { (h : HeadingModel) (entries : List Entry) (g : Group) → EndsFor h entries g (Auditing.Both self.entry)
             → MatchResult result (λ a. IsAudited h entries g a) (λ fault. IsAuditFault (group_rules h.setup h.groups g) entries fault) }
     {
-        let BothAudit {
-            common: _,
-            balance,
-            pairs,
-        } = self;
-        match pairs.finish() {
-            Ok(list) => {
-                let parts = balance.so_far();
-                Ok(AuditResult::Pairs(parts, balance_of(&parts), list))
-            }
-            Err(fault) => Err(fault),
-        }
-    }
-}
-
-/// Passes an entry to the audit of a semaphore, unless its call is on another object: then the
-/// audit stays as it is.
-#[inline(always)]
-fn take_on(
-    audit: &mut BalanceAudit,
-    semaphore: &SemaphoreShape,
-    place: usize,
-    op: &Act,
-    entry: &Entry,
-)
-    requires { place + 1 < 2 ^ 64 }
-    ensures { (start : BalanceAuditModel) (past : List Entry) → place ≡ length past → op.now ≡ opening_act entry.now.act (under_way entry.now.worker past)
-        → semaphore.now ≡ audit.old.shape → BalancesOn start audit.old past → BalancesOn start audit.new (entry.now ∷ past) }
-{
-    if is_on(semaphore, op) {
-        audit.take(place, op, entry);
+        let BothAudit { balance, pairs, .. } = self;
+        let list = pairs.finish()?;
+        let parts = balance.so_far();
+        Ok(AuditResult::Pairs(parts, balance_of(&parts), list))
     }
 }
 
@@ -87,7 +57,10 @@ impl<'a> Audit for BothAudit<'a> {
     ghost represents = { BothOn };
 
     fn take(&mut self, place: usize, op: &Act, entry: &Entry) {
-        take_on(&mut self.balance, &self.common, place, op, entry);
+        // (An entry whose call is not on the common semaphore leaves the audit of it as it is.)
+        if is_on(&self.common, op) {
+            self.balance.take(place, op, entry);
+        }
         self.pairs.take(place, op, entry);
     }
 }
@@ -127,9 +100,7 @@ impl<'a> Auditing<'a> {
             }),
         }
     }
-}
 
-impl<'a> Auditing<'a> {
     /// Returns what the audit found of the entries so far, or the first of them that breaks the
     /// group's rules.
     pub(crate) fn finish(self) -> Result<AuditResult, AuditFault>
@@ -138,18 +109,12 @@ impl<'a> Auditing<'a> {
             → MatchResult result (λ a. IsAudited h entries g a) (λ fault. IsAuditFault (group_rules h.setup h.groups g) entries fault) }
     {
         match self {
-            Auditing::Deliveries(audit) => match audit.finish() {
-                Ok(list) => Ok(AuditResult::Deliveries(list)),
-                Err(fault) => Err(fault),
-            },
-            Auditing::Versions(audit) => match audit.finish() {
-                Ok(tries) => Ok(AuditResult::Versions(tries)),
-                Err(fault) => Err(fault),
-            },
-            Auditing::Balance(audit) => match audit.finish() {
-                Ok(parts) => Ok(AuditResult::Balances(parts, balance_of(&parts))),
-                Err(fault) => Err(fault),
-            },
+            Auditing::Deliveries(audit) => Ok(AuditResult::Deliveries(audit.finish()?)),
+            Auditing::Versions(audit) => Ok(AuditResult::Versions(audit.finish()?)),
+            Auditing::Balance(audit) => {
+                let parts = audit.finish()?;
+                Ok(AuditResult::Balances(parts, balance_of(&parts)))
+            }
             Auditing::Both(audit) => audit.finish(),
         }
     }

@@ -1,11 +1,13 @@
 -- The audits of groups, one after another.
 use Rattle.std.proofs.Common.{◌≡◌, ℕ, zero, suc, ◌+◌, ◌<◌, List, [], ◌∷◌, ◌++◌, length, Some, None, refl, sym, ap, ◌∙◌, subst, arith, slice_get, ◌⊎◌, inl, inr, take, map, codes, decimal, add-one, append_assoc, append-nil, length-append}
+use Rattle.std.proofs.lemmas.List.{length-take-le}
 use Rattle.std.proofs.lemmas.List.Concat.{flat_map-append}
+use Rattle.std.proofs.lemmas.Option.{slice_get_within}
 use Rattle.ec_text.specs.Puts.{Puts, OutputModel}
 use Rattle.ec_text.proofs.shared.PutLemmas.{puts_then}
 use Rattle.ec_heading.specs.Spelling.{lines_text, ended_line}
 use Rattle.evc_engine.specs.AuditTexts.{word_after_space, spaced_numbers, group_word, audited_lines, groups_lines, audit_text}
-use Rattle.evc_engine.proofs.shared.TotalLemmas.{take_next, take_past, line_put}
+use Rattle.evc_engine.proofs.shared.TotalLemmas.{take_next, flat_next, line_put}
 use Rattle.ec_order.proofs.shared.Matching.{at_index}
 use Rattle.ec_core.proofs.shared.Joining.{last_get}
 use Rattle.ec_core.specs.declared.act.Entry.{Entry}
@@ -68,20 +70,11 @@ line_at a b c f ps k p is before now = subst (λ l. Puts a c (lines_text (map f 
 pub number_at : (a b c : OutputModel) (ns : List ℕ) (k n : ℕ) → slice_get ns k ≡ Some n
     → Puts a b (spaced_numbers (take k ns)) → Puts b c (word_after_space (decimal n)) → Puts a c (spaced_numbers (take (k + 1) ns))
 number_at a b c ns k n is before now =
-    (let text : spaced_numbers (take (k + 1) ns) ≡ spaced_numbers (take k ns)
-    ++ word_after_space (decimal n)
-    = ap spaced_numbers (take_next ns k n is) ∙ flat_map-append (λ m. word_after_space (decimal m)) (take k ns) (n ∷ []) ∙ ap (λ t. spaced_numbers (take k ns) ++ t) (append-nil (word_after_space (decimal n))) in
-    subst (Puts a c) (sym text) (puts_then a b c _ _ before now))
-
--- after the last element a prefix gets no longer
-pub none_at : {A : Type 0} (xs : List A) (k : ℕ) → slice_get xs k ≡ None → take (k + 1) xs ≡ take k xs
-none_at xs k none = ap (λ n. take n xs) (add-one k) ∙ take_past xs k none
+    subst (Puts a c) (sym (flat_next (λ m. word_after_space (decimal m)) ns k n is)) (puts_then a b c _ _ before now)
 
 -- the prefix before index k of a list has k elements
 pub taken_length : {A : Type 0} (xs : List A) (k : ℕ) (x : A) → slice_get xs k ≡ Some x → length (take k xs) ≡ k
-taken_length [] k x is = cc
-taken_length (y ∷ xs) zero x is = refl
-taken_length (y ∷ xs) (suc k) x is = ap suc (taken_length xs k x is)
+taken_length xs k x is = length-take-le k xs (let low = slice_get_within xs k x is in omega arith)
 
 -- the lines of one more group
 groups_next : (h : HeadingModel) (i : ℕ) (found : List AuditResult) (a : AuditResult)

@@ -1,5 +1,6 @@
 -- The lines of totals, one after another.
-use Rattle.std.proofs.Common.{◌≡◌, ℕ, zero, suc, ◌+◌, List, [], ◌∷◌, ◌++◌, ap, sym, ◌∙◌, arith, add-one, append_assoc, append-nil, subst, codes, Some, take, slice_get, None, refl, length, ◌≤◌, map}
+use Rattle.std.proofs.Common.{◌≡◌, ℕ, zero, suc, ◌+◌, List, [], ◌∷◌, ◌++◌, ap, sym, ◌∙◌, arith, add-one, append_assoc, append-nil, subst, codes, Some, take, slice_get, None, inl, inr, length, ◌≤◌, map}
+use Rattle.std.specs.List.{flat_map}
 use Rattle.std.proofs.lemmas.List.Concat.{flat_map-append}
 use Rattle.ec_count.specs.declared.target.Target.{Target}
 use Rattle.ec_count.specs.declared.target.Target.TheVariants.{Event, Sequencer, Cells}
@@ -8,18 +9,14 @@ use Rattle.ec_core.specs.Counts.{total, issued, cell_value}
 use Rattle.ec_text.specs.Puts.{Puts, OutputModel}
 use Rattle.ec_text.proofs.shared.PutLemmas.{puts_then}
 use Rattle.ec_heading.specs.HeadingModel.{HeadingModel}
-use Rattle.std.proofs.lemmas.List.{take_all, map-append}
+use Rattle.std.proofs.lemmas.List.{take_all, take_more, map-append}
+use Rattle.std.proofs.lemmas.Option.{slice_get_cases, slice_get_within, get_or_from_slice_get}
 use Rattle.ec_heading.specs.Spelling.{NameTable, lines_text, ended_line}
-use Rattle.evc_engine.specs.Texts.{cell_line, cell_lines, count_line, totals_of, totals_at, totals_by, totals_lines}
-
-take_more : {A : Type 0} (xs : List A) (k : ℕ) (x : A) → slice_get xs k ≡ Some x → take (suc k) xs ≡ take k xs ++ x ∷ []
-take_more [] k x h = cc
-take_more (y ∷ ys) zero x h = (let same : y ≡ x = cc in ap (λ z. z ∷ []) same)
-take_more (y ∷ ys) (suc k) x h = ap (λ t. y ∷ t) (take_more ys k x h)
+use Rattle.evc_engine.specs.Texts.{cell_line, cell_lines, count_line, totals_of, totals_by}
 
 -- a prefix that is one longer has the element at the next index too
 pub take_next : {A : Type 0} (xs : List A) (k : ℕ) (x : A) → slice_get xs k ≡ Some x → take (k + 1) xs ≡ take k xs ++ x ∷ []
-take_next xs k x h = rw add-one (take_more xs k x h)
+take_next xs k x h = take_more xs k x (slice_get_within xs k x h) ∙ ap (λ z. take k xs ++ z ∷ []) (get_or_from_slice_get xs k x x h)
 
 -- one more line at the end
 pub cells_next : (name : List ℕ) (past : List Entry) (first i n : ℕ)
@@ -77,33 +74,28 @@ pub nothing_put_for : (now : OutputModel) (lines : List (List ℕ)) → lines �
 nothing_put_for now lines none = subst (λ ls. Puts now now (lines_text ls)) (sym none) (nothing_put now)
 
 -- after the last element a prefix gets no longer
-pub take_past : {A : Type 0} (xs : List A) (k : ℕ) → slice_get xs k ≡ None → take (suc k) xs ≡ take k xs
-take_past [] zero h = refl
-take_past [] (suc k) h = refl
-take_past (y ∷ ys) zero h = cc
-take_past (y ∷ ys) (suc k) h = ap (λ t. y ∷ t) (take_past ys k h)
+pub none_at : {A : Type 0} (xs : List A) (k : ℕ) → slice_get xs k ≡ None → take (k + 1) xs ≡ take k xs
+none_at xs k none = elim (slice_get_cases xs k).1 [
+  | inl p ↦ (let got = p.2 in cc)
+  | inr past ↦ take_all (k + 1) xs (let far = past.0 in omega arith) ∙ sym (take_all k xs past.0)
+]
+
+-- what is listed for one more element
+pub flat_next : {A B : Type 0} (f : A → List B) (xs : List A) (k : ℕ) (x : A) → slice_get xs k ≡ Some x → flat_map f (take (k + 1) xs) ≡ flat_map f (take k xs) ++ f x
+flat_next f xs k x is = ap (flat_map f) (take_next xs k x is) ∙ flat_map-append f (take k xs) (x ∷ []) ∙ ap (λ t. flat_map f (take k xs) ++ t) (append-nil (f x))
 
 -- the totals of one more word
-one_more : (past : List Entry) (words : NameTable) (k : ℕ) → totals_by past (take (k + 1) words) ≡ totals_by past (take k words) ++ totals_at past (slice_get words k)
-one_more past words k = elim (slice_get words k) as (λ o. slice_get words k ≡ o → totals_by past (take (k + 1) words) ≡ totals_by past (take k words) ++ totals_at past o) [
-  | None ↦ λ q. ap (λ n. totals_by past (take n words)) (add-one k) ∙ ap (totals_by past) (take_past words k q) ∙ sym (append-nil (totals_by past (take k words)))
-  | Some e ↦ λ q.
-      ap (totals_by past) (take_next words k e q)
-      ∙ flat_map-append (λ (d : List ℕ × Target). totals_of past d.0 d.1) (take k words) (e ∷ [])
-      ∙ ap (λ t. totals_by past (take k words) ++ t) (append-nil (totals_of past e.0 e.1))
-] refl
-
-pub totals_put : (a b c : OutputModel) (past : List Entry) (words : NameTable) (k : ℕ)
-    → Puts a b (lines_text (totals_by past (take k words))) → Puts b c (lines_text (totals_at past (slice_get words k)))
+pub totals_put : (a b c : OutputModel) (past : List Entry) (words : NameTable) (k : ℕ) (e : List ℕ × Target) → slice_get words k ≡ Some e
+    → Puts a b (lines_text (totals_by past (take k words))) → Puts b c (lines_text (totals_of past e.0 e.1))
     → Puts a c (lines_text (totals_by past (take (k + 1) words)))
-totals_put a b c past words k before now =
-    (let text : lines_text (totals_by past (take (k + 1) words)) ≡ lines_text (totals_by past (take k words)) ++ lines_text (totals_at past (slice_get words k))
-    = ap lines_text (one_more past words k) ∙ flat_map-append ended_line (totals_by past (take k words)) (totals_at past (slice_get words k)) in
+totals_put a b c past words k e is before now =
+    (let text : lines_text (totals_by past (take (k + 1) words)) ≡ lines_text (totals_by past (take k words)) ++ lines_text (totals_of past e.0 e.1)
+    = ap lines_text (flat_next (λ (d : List ℕ × Target). totals_of past d.0 d.1) words k e is) ∙ flat_map-append ended_line (totals_by past (take k words)) (totals_of past e.0 e.1) in
     subst (Puts a c) (sym text) (puts_then a b c _ _ before now))
 
 -- if the lines of each word are put, all lines of totals are put
 pub totals_all : (a b : OutputModel) (past : List Entry) (words : NameTable) (k : ℕ) (heading : HeadingModel) → length words ≤ k → words ≡ heading.words
-    → Puts a b (lines_text (totals_by past (take k words))) → Puts a b (lines_text (totals_lines heading past))
+    → Puts a b (lines_text (totals_by past (take k words))) → Puts a b (lines_text (totals_by past heading.words))
 totals_all a b past words k heading far all put =
     subst (Puts a b) (ap (λ ws. lines_text (totals_by past ws)) (take_all k words far ∙ all)) put
 

@@ -1,17 +1,5 @@
 -- The monitor is borrowed for the call, and is in its memory again after it.
-use Rattle.evc_c.proofs.MonitorSteps.{ℕ, List, [], ◌∷◌, refl, ap, proved, full_share, id⊢, sep}
-use Rattle.evc_c.proofs.MonitorSteps.{ftrue, flft, flent, named, vptr, vunit, WpFn, fact, tables}
-use Rattle.evc_c.proofs.MonitorSteps.{sem, ‵, raw, ◌⊛◌, some, later, prop, ◌$◌, ◌∵◌, !, qed, done}
-use Rattle.evc_c.proofs.MonitorSteps.{move, keep, drop, use1, use2, use3, split, join, fsplit}
-use Rattle.evc_c.proofs.MonitorSteps.{feq_i, feq_l, pick, await, regoal, suffices, frame, show}
-use Rattle.evc_c.proofs.MonitorSteps.{lft_new, lft_end, Body, enter, addr, no_more, and_then, stop}
-use Rattle.evc_c.proofs.MonitorSteps.{returns, of_opd, unit_lit, alloc_all, pass_all, free_all}
-use Rattle.evc_c.proofs.MonitorSteps.{look_at, get, through, sets, lands_as, unit, yes, part_at}
-use Rattle.evc_c.proofs.MonitorSteps.{mem, Ptr, ptr_val, RawPtr, block_ptr, lies_at, in_a_block}
-use Rattle.evc_c.proofs.MonitorSteps.{rawptr_vals, rawptr_Tells, MutRef, mut_vals, mut_Tells}
-use Rattle.evc_c.proofs.MonitorSteps.{lends_ref, ref_back, plain, nothing, only, heard, calls_at}
-use Rattle.evc_c.proofs.MonitorSteps.{lasts, triple_of, framed, says, Stays, walk_of, stay_dropped}
-use Rattle.evc_c.proofs.MonitorSteps.{Goes-dropped, gave_ref, Goes-gave_ref, ends_at, R, Monitor}
+use Rattle.evc_c.proofs.MonitorSteps.{ℕ, List, [], ◌∷◌, refl, ap, proved, full_share, id⊢, sep, ftrue, flft, flent, named, vptr, vunit, WpFn, fact, tables, sem, ‵, raw, ◌⊛◌, some, later, prop, ◌$◌, ◌∵◌, !, qed, done, move, keep, drop, use1, use2, use3, split, join, fsplit, feq_i, feq_l, pick, await, regoal, suffices, frame, show, lft_new, lft_end, Body, enter, addr, no_more, and_then, stop, returns, of_opd, unit_lit, alloc_all, pass_all, free_all, look_at, get, through, sets, lands_as, unit, yes, part_at, mem, Ptr, ptr_val, RawPtr, block_ptr, lies_at, in_a_block, rawptr_vals, rawptr_Tells, MutRef, mut_vals, mut_Tells, lends_ref, ref_back, plain, nothing, only, heard, calls_at, lasts, triple_of, framed, says, Stays, walk_of, stay_dropped, Goes-dropped, gave_ref, Goes-gave_ref, ends_at, R, Monitor, lent}
 use Rattle.evc_c.specs.contracts.monitor_calls.evc_monitor_load as f
 use Rattle.evc_c.proofs.monitor_calls.evc_monitor_load.Statement.{statement}
 use Rattle.evc_c.proofs.monitor_calls.evc_monitor_load.Code as code
@@ -55,12 +43,8 @@ evc_monitor_load_spec 𝓤 𝓛 𝓜 𝓡 wired =
     in_a_block ! a.0 (λ p. lies_at R full_share p old) (id⊢ 𝓤 _) (λ b o e.
     regoal ! (λ p. prop (WpFn 𝓤 𝓛.H 𝓣.C 𝓣.Λ code.function (ptr_val p
     ∷ vptr a.1.0.ref_ptr.0 a.1.0.ref_ptr.1 ∷ []) (W.post (y p)))) e refl $
-    let Ref = λ (κ' : List ℕ) (δ : ℕ). (MutRef (named 0) κ' R).own_val (record {
-      ref_ptr =
-          (b, o);
-      ghost_name = δ;
-      now = old;
-    }) (vptr b o ∷ []) in
+    let Ref = λ (κ' : List ℕ) (δ : ℕ). (MutRef (named 0) κ' R).own_val (lent b o δ old)
+    (vptr b o ∷ []) in
     enter ! _ _ _ _ _ $ alloc_all ! (λ l. pass_all ! refl ((tt, tt), ((tt, tt), tt)) $
     -- [the monitor; the token of what else is passed; that; the locals]
     sets ! (of_opd ! (get ! refl)) refl (tt, tt) $
@@ -77,15 +61,7 @@ evc_monitor_load_spec 𝓤 𝓛 𝓜 𝓡 wired =
         (α ∷ [], κs),
         (full_share, qs),
         tt,
-        (
-          record {
-            ref_ptr = (b, o);
-            ghost_name
-                = δ;
-            now = old;
-          },
-          a.1,
-        ),
+        (lent b o δ old, a.1),
         (vptr b o ∷ [], (mut_vals a.1.0, tt)),
       ),
       tt,

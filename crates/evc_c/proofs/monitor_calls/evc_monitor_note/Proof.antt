@@ -1,20 +1,5 @@
 -- The monitor is borrowed for the call, and is in its memory again after it.
-use Rattle.evc_c.proofs.MonitorSteps.{ℕ, List, [], ◌∷◌, refl, length, w64, proved, full_share, id⊢}
-use Rattle.evc_c.proofs.MonitorSteps.{sep, ftrue, flft, flent, named, vptr, WpFn, fact, tables, sem}
-use Rattle.evc_c.proofs.MonitorSteps.{‵, raw, ◌⊛◌, some, later, prop, ◌$◌, ◌∵◌, !, qed, done, move}
-use Rattle.evc_c.proofs.MonitorSteps.{keep, drop, use1, use2, use3, split, join, fsplit, feq_l}
-use Rattle.evc_c.proofs.MonitorSteps.{pick, await, regoal, suffices, frame, show, lft_new, lft_end}
-use Rattle.evc_c.proofs.MonitorSteps.{Body, enter, addr, from, fld, hop, no_more, and_then, stop}
-use Rattle.evc_c.proofs.MonitorSteps.{returns, of_opd, whole, sub, agg, alloc_all, pass_all}
-use Rattle.evc_c.proofs.MonitorSteps.{free_all, look_at, look_in_at, get, get_in, through, sets}
-use Rattle.evc_c.proofs.MonitorSteps.{lands_as, u8, usize, yes, Is, shows, uint_Lawful, part_at}
-use Rattle.evc_c.proofs.MonitorSteps.{mem, Ptr, ptr_val, RawPtr, block_ptr, lies_at, in_a_block}
-use Rattle.evc_c.proofs.MonitorSteps.{rawptr_vals, rawptr_Tells, MutRef, MutSlice, mut_slice_vals}
-use Rattle.evc_c.proofs.MonitorSteps.{mut_slice_Tells, mut_slice_Lawful, slice_val, lends_ref}
-use Rattle.evc_c.proofs.MonitorSteps.{ref_back, plain, nothing, heard, peeks, calls_at, lasts}
-use Rattle.evc_c.proofs.MonitorSteps.{triple_of, framed, says, Stays, walk_of, stay_dropped}
-use Rattle.evc_c.proofs.MonitorSteps.{Goes-dropped, gave_slice, Goes-gave_slice, ends_at, R}
-use Rattle.evc_c.proofs.MonitorSteps.{Monitor}
+use Rattle.evc_c.proofs.MonitorSteps.{ℕ, List, [], ◌∷◌, refl, length, w64, proved, full_share, id⊢, sep, ftrue, flft, flent, named, vptr, WpFn, fact, tables, sem, ‵, raw, ◌⊛◌, some, later, prop, ◌$◌, ◌∵◌, !, qed, done, move, keep, drop, use1, use2, use3, split, join, fsplit, feq_l, pick, await, regoal, suffices, frame, show, lft_new, lft_end, Body, enter, addr, from, fld, hop, no_more, and_then, stop, returns, of_opd, whole, sub, agg, alloc_all, pass_all, free_all, look_at, look_in_at, get, get_in, through, sets, lands_as, u8, usize, yes, Is, shows, uint_Lawful, part_at, mem, Ptr, ptr_val, RawPtr, block_ptr, lies_at, in_a_block, rawptr_vals, rawptr_Tells, MutRef, MutSlice, mut_slice_vals, mut_slice_Tells, mut_slice_Lawful, slice_val, lends_ref, ref_back, plain, nothing, heard, peeks, calls_at, lasts, triple_of, framed, says, Stays, walk_of, stay_dropped, Goes-dropped, gave_slice, Goes-gave_slice, ends_at, R, Monitor, lent}
 use Rattle.evc_c.specs.contracts.monitor_calls.evc_monitor_note as f
 use Rattle.evc_c.proofs.monitor_calls.evc_monitor_note.Statement.{statement}
 use Rattle.evc_c.proofs.monitor_calls.evc_monitor_note.Code as code
@@ -62,12 +47,8 @@ evc_monitor_note_spec 𝓤 𝓛 𝓜 𝓡 wired =
     in_a_block ! a.0 (λ p. lies_at R full_share p old) (id⊢ 𝓤 _) (λ b o e.
     regoal ! (λ p. prop (WpFn 𝓤 𝓛.H 𝓣.C 𝓣.Λ code.function (ptr_val p ∷ slice_val a.1.0.ref_ptr
     (length a.1.0.now) ∷ []) (W.post (y p)))) e refl $
-    let Ref = λ (κ' : List ℕ) (δ : ℕ). (MutRef (named 0) κ' R).own_val (record {
-      ref_ptr =
-          (b, o);
-      ghost_name = δ;
-      now = old;
-    }) (vptr b o ∷ []) in
+    let Ref = λ (κ' : List ℕ) (δ : ℕ). (MutRef (named 0) κ' R).own_val (lent b o δ old)
+    (vptr b o ∷ []) in
     enter ! _ _ _ _ _ $ alloc_all ! (λ l. pass_all ! refl (
       (tt, tt),
       (
@@ -95,15 +76,7 @@ evc_monitor_note_spec 𝓤 𝓛 𝓜 𝓡 wired =
         (α ∷ [], κs),
         (full_share, qs),
         tt,
-        (
-          record {
-            ref_ptr = (b, o);
-            ghost_name
-                = δ;
-            now = old;
-          },
-          a.1,
-        ),
+        (lent b o δ old, a.1),
         (vptr b o ∷ [], (mut_slice_vals a.1.0, tt)),
       ),
       tt,

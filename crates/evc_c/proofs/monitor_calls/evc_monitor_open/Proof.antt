@@ -1,15 +1,5 @@
 -- A new monitor is written to memory that has its size.
-use Rattle.evc_c.proofs.MonitorSteps.{[], ◌∷◌, refl, proved, full_share, id⊢, sep, ftrue, vunit}
-use Rattle.evc_c.proofs.MonitorSteps.{WpFn, fact, tables, sem, ‵, raw, ◌⊛◌, some, later, prop, ◌$◌}
-use Rattle.evc_c.proofs.MonitorSteps.{◌∵◌, !, qed, done, move, keep, drop, use1, use2, split, join}
-use Rattle.evc_c.proofs.MonitorSteps.{feq_i, pick, await, regoal, suffices, frame, show, enter}
-use Rattle.evc_c.proofs.MonitorSteps.{no_more, and_then, stop, returns, of_opd, unit_lit, init}
-use Rattle.evc_c.proofs.MonitorSteps.{assigns, alloc_all, pass_all, free_all, look_at, get, through}
-use Rattle.evc_c.proofs.MonitorSteps.{sets, lands_as, yes, Is, shows, part_at, Ptr, ptr_val, RawPtr}
-use Rattle.evc_c.proofs.MonitorSteps.{block_ptr, lies_at, room_at, in_a_block, rawptr_vals}
-use Rattle.evc_c.proofs.MonitorSteps.{rawptr_Tells, plain, nothing, heard, peeks, calls_at, lasts}
-use Rattle.evc_c.proofs.MonitorSteps.{triple_of, framed, says, Stays, walk_of, stay_dropped}
-use Rattle.evc_c.proofs.MonitorSteps.{Goes-dropped, ends_at, part_in, Heap, R, Monitor}
+use Rattle.evc_c.proofs.MonitorSteps.{[], ◌∷◌, refl, proved, full_share, id⊢, sep, ftrue, vunit, WpFn, fact, tables, sem, ‵, raw, ◌⊛◌, some, later, prop, ◌$◌, ◌∵◌, !, qed, done, move, keep, drop, use1, use2, split, join, feq_i, pick, await, regoal, suffices, frame, show, enter, no_more, and_then, stop, returns, of_opd, unit_lit, init, assigns, alloc_all, pass_all, free_all, look_at, get, through, sets, lands_as, yes, Is, shows, part_at, Ptr, ptr_val, RawPtr, block_ptr, lies_at, room_at, in_a_block, rawptr_vals, rawptr_Tells, plain, nothing, heard, peeks, calls_at, lasts, triple_of, framed, says, Stays, walk_of, stay_dropped, Goes-dropped, ends_at, part_in, Heap, R, Monitor}
 use Rattle.evc_c.specs.contracts.monitor_calls.evc_monitor_open as f
 use Rattle.evc_c.proofs.monitor_calls.evc_monitor_open.Statement.{statement}
 use Rattle.evc_c.proofs.monitor_calls.evc_monitor_open.Code as code

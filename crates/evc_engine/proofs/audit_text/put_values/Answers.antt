@@ -1,7 +1,8 @@
 use Rattle.std.proofs.Common.{◌+◌, take, sym, subst, ◌∙◌}
 use Rattle.ec_text.specs.Puts.{Puts}
 use Rattle.evc_engine.specs.AuditTexts.{spaced_numbers}
-use Rattle.evc_engine.proofs.shared.AuditLemmas.{number_at, none_at}
+use Rattle.evc_engine.proofs.shared.AuditLemmas.{number_at}
+use Rattle.evc_engine.proofs.shared.TotalLemmas.{none_at}
 use Rattle.evc_engine.proofs.audit_text.put_values.Goals.{in-Some, in_default}
 use Rattle.evc_engine.proofs.audit_text.put_values.Goals as goal
 

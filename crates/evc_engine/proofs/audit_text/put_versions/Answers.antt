@@ -3,7 +3,8 @@ use Rattle.ec_database.specs.Tries.{AcceptedTry}
 use Rattle.ec_text.specs.Puts.{Puts}
 use Rattle.ec_heading.specs.Spelling.{lines_text}
 use Rattle.evc_engine.specs.AuditTexts.{version_line}
-use Rattle.evc_engine.proofs.shared.AuditLemmas.{line_at, none_at}
+use Rattle.evc_engine.proofs.shared.AuditLemmas.{line_at}
+use Rattle.evc_engine.proofs.shared.TotalLemmas.{none_at}
 use Rattle.evc_engine.proofs.audit_text.put_versions.Goals.{in-Some, in_default}
 use Rattle.evc_engine.proofs.audit_text.put_versions.Goals as goal
 

@@ -11,7 +11,3 @@ returns-in-Err-clause-ends g c = if_known (g.R.Read.remaining c.args.reader.now)
     let new : Outputs = record { out = g.W.Write.contents c.args.out.now; notes = c.note_unread.new.notes } in
     subst (λ s. Audits bytes (g.R.Read.remaining c.open_trace.new.reader) s old new) (sym c.note_unread.ensures.status)
     (fault_told bytes (g.R.Read.remaining c.open_trace.new.reader) c.in-Err.fault old new (known (g.R.Read.remaining c.args.reader.now) _ bytes c.in-Err.ensures is) (stays (g.W.Write.contents c.args.out.now)) (c.note_unread.ensures.note, c.note_unread.ensures.written)))
-
-pub returns-clause-ends : goal.returns-clause-ends
-returns-clause-ends g c = if_known (g.R.Read.remaining c.args.reader.now) _ (λ bytes is.
-    c.write_found.ensures.ends bytes (g.R.Read.remaining c.found_in-found.new.reader) (c.found_in-found.ensures bytes (known (g.R.Read.remaining c.args.reader.now) _ bytes c.in-Ok.ensures is)))

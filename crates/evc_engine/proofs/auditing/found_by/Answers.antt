@@ -30,13 +30,13 @@ loop-group-preserved c =
     let was = c.loop-group.invariant in
     let taken = c.in-Some.ensures.cases in
     record {
-      few = ap (λ n. n + 1) was.few ∙ sym (audited_length c.loop-group.found.items c.in-Ok.audited c.push_result.new.found.items c.in-Ok-push_result.ensures);
+      few = ap (λ n. n + 1) was.few ∙ sym (audited_length c.loop-group.found.items c.in-Ok.audited c.push.new.self.items c.in-Ok-push.ensures.items);
       long = (let shorter = taken.1 in let longer = ap length taken.0 in let long = was.long in omega arith);
       each = λ h entries same ends.
           let was = c.loop-group.invariant.each h entries same ends in
           let at = group_at h.groups c.loop-group.group (subst (λ (gs : List Group). c.loop-group.group < length gs) same c.loop-group-test.true) in
           let rest = subst (λ (l : List Auditing). EachFrom (λ g a. EndsFor h entries g a) h.groups c.loop-group.group l) taken.0 was.1 in (
-            subst (EachIsAudited h entries) (sym c.in-Ok-push_result.ensures)
+            subst (EachIsAudited h entries) (sym c.in-Ok-push.ensures.items)
                 (one_more_audited h entries c.loop-group.found.items c.loop-group.group at.0 c.in-Ok.audited c.loop-group.invariant.few at.1 was.0
                 (c.in-Ok.ensures h entries at.0 (from_here (λ g a. EndsFor h entries g a) h.groups c.loop-group.group c.in-Some.auditing (into_iter_items c.next.new.self) at.0 rest at.1))),
             from_next (λ g a. EndsFor h entries g a) h.groups c.loop-group.group c.in-Some.auditing (into_iter_items c.next.new.self) rest,

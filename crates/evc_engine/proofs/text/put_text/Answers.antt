@@ -4,7 +4,7 @@ use Rattle.ec_text.specs.Puts.{Puts}
 use Rattle.ec_text.proofs.shared.PutLemmas.{puts_then}
 use Rattle.ec_heading.specs.Spelling.{NameTable, lines_text, ended_line}
 use Rattle.ec_order.specs.declared.linearized_entry.LinearizedEntry.{LinearizedEntry}
-use Rattle.evc_engine.specs.Texts.{linearized_line, totals_lines}
+use Rattle.evc_engine.specs.Texts.{linearized_line, totals_by}
 use Rattle.evc_engine.proofs.CheckLemmas.{text_parts}
 use Rattle.evc_engine.proofs.text.put_text.Goals as goal
 
@@ -21,9 +21,9 @@ behind_lf line a x (d ∷ ds) =
 pub returns : goal.returns
 returns g c = λ entries represents.
     let line = linearized_line c.args.heading.now.words in
-    let totals = lines_text (totals_lines c.args.heading.now (reverse entries)) in
+    let totals = lines_text (totals_by (reverse entries) c.args.heading.now.words) in
     let lines = behind_lf line (codes "evc-order 1") (codes "totals\n") c.args.calls in
-    let parts = text_parts (codes "evc-order 1") (codes "totals") (codes "end") (map line c.args.calls) (totals_lines c.args.heading.now (reverse entries)) in
+    let parts = text_parts (codes "evc-order 1") (codes "totals") (codes "end") (map line c.args.calls) (totals_by (reverse entries) c.args.heading.now.words) in
     subst (Puts c.args.out.now c.put-3.new.self)
     (ap (λ (t : List ℕ). (t ++ totals) ++ codes "end\n") lines ∙ sym parts)
     (puts_then _ _ _ _ _

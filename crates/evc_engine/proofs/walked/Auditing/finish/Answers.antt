@@ -7,10 +7,10 @@ use Rattle.evc_engine.specs.declared.audit_result.AuditResult.TheVariants.{Versi
 use Rattle.evc_engine.proofs.Findings.{of_database}
 use Rattle.evc_engine.proofs.walked.Auditing.finish.Goals as goal
 
-pub returns-in-Ok-finish : goal.returns-in-Ok-finish
-returns-in-Ok-finish c = λ h entries g e.
-    let v = c.in-Ok-finish.ensures in
+pub returns-in_ok-finish-in-Versions : goal.returns-in_ok-finish-in-Versions
+returns-in_ok-finish-in-Versions c = λ h entries g e.
+    let v = c.in_ok-finish-in-Versions.ensures in
     let found = of_database h entries g c.in-Versions.audit
-    (λ t d. FollowsDatabase t d (reverse entries) × (ListsTries t d entries c.in-Ok-finish.tries.list × AreUndisturbed t d entries c.in-Ok-finish.tries.list))
+    (λ t d. FollowsDatabase t d (reverse entries) × (ListsTries t d entries c.in_ok-finish-in-Versions.field-0.list × AreUndisturbed t d entries c.in_ok-finish-in-Versions.field-0.list))
     (subst (EndsFor h entries g) c.in-Versions.is e) (λ ended. (v.followed entries ended, (v.tries entries ended, v.undisturbed entries ended))) in
-    subst (λ x. IsAudited h entries x (Versions c.in-Ok-finish.tries)) (sym found.1) found.2
+    subst (λ x. IsAudited h entries x (Versions c.in_ok-finish-in-Versions.field-0)) (sym found.1) found.2

@@ -10,13 +10,13 @@ use Rattle.evc_engine.specs.declared.audit_result.AuditResult.TheVariants.{Pairs
 use Rattle.evc_engine.proofs.Findings.{of_both, counts_both}
 use Rattle.evc_engine.proofs.walked.BothAudit.finish.Goals as goal
 
-pub returns-in-Ok : goal.returns-in-Ok
-returns-in-Ok c = λ h entries g e.
+pub returns : goal.returns
+returns c = λ h entries g e.
     let counts = counts_both h entries g c.args.self e in
     let parts = c.so_far-parts.ensures ∙ counts.parts in
     let small = subst (λ (b : Balance). b.initial + b.ups < 2 ^ 64) (sym c.so_far-parts.ensures) counts.small in
     let found = of_both h entries g c.args.self
     (λ common all s. Follow (both_rules common (is_semaphore_sequencer common all)) (reverse entries)
-    × ((c.so_far-parts.result ≡ balance_parts s (reverse entries)) × (c.balance_of.result ≡ balance_of c.so_far-parts.result) × (c.in-Ok.list.items ≡ pairs_of common all entries)))
-    e (λ counted paired. (c.in-Ok.ensures.followed h.setup entries paired refl, (parts, c.balance_of.ensures small, c.in-Ok.ensures.pairs h.setup entries paired))) in
-    subst (λ x. IsAudited h entries x (Pairs c.so_far-parts.result c.balance_of.result c.in-Ok.list)) (sym found.1) found.2
+    × ((c.so_far-parts.result ≡ balance_parts s (reverse entries)) × (c.balance_of.result ≡ balance_of c.so_far-parts.result) × (c.in_ok-list.list.items ≡ pairs_of common all entries)))
+    e (λ counted paired. (c.in_ok-list.ensures.followed h.setup entries paired refl, (parts, c.balance_of.ensures small, c.in_ok-list.ensures.pairs h.setup entries paired))) in
+    subst (λ x. IsAudited h entries x (Pairs c.so_far-parts.result c.balance_of.result c.in_ok-list.list)) (sym found.1) found.2
