@@ -1,33 +1,12 @@
 //! Pending calls, as a world stores them.
 ghost use Rattle.std.specs.Prelude.{◌≡◌, ◌+◌, ◌*◌, ◌^◌, ◌<◌, ◌≤◌, IsSome, slice_get};
-ghost use Rattle.ec_core.specs.Rounds.{event_or, read_event};
-ghost use Rattle.ec_core.specs.Fields.{new_progress, with_round, read_component, count_value};
+ghost use Rattle.ec_core.specs.Rounds.{read_event};
+ghost use Rattle.ec_core.specs.Fields.{new_progress, read_component, count_value};
 
 use crate::Act;
 use crate::effect::Effect;
-use ec_count::{Count, EventId};
+use ec_count::Count;
 use std::marker::Model;
-
-/// The progress of the round of a call: the component that the next Go reads, and the sum of those
-/// before it.
-#[derive(Clone, Copy)]
-pub(crate) struct Round {
-    index: usize,
-    sum: u64,
-}
-
-impl Model for Round {
-    ghost use Rattle.std.specs.Prelude.{◌*◌, ◌^◌, ◌<◌, ◌≤◌};
-    ghost use Rattle.ec_core.specs.Progress.{RoundSoFar};
-
-    ghost Value = { RoundSoFar };
-
-    ghost view = { λ r. record { index = r.index; sum = r.sum } };
-
-    ghost invariant = { λ r. (r.index < 16) × (r.sum ≤ r.index * 2 ^ 48) };
-
-    ghost inverse = { λ r. record { index = r.index; sum = r.sum } };
-}
 
 /// A pending call, with the progress of its round.
 ///
@@ -67,43 +46,12 @@ impl UnderWay {
         }
     }
 
-    /// Returns the same call, whose round has this progress.
-    #[inline(always)]
-    pub(crate) fn at(&self, round: Round) -> Self
-        ensures { result ≡ with_round round self.now }
-    {
-        UnderWay {
-            op: self.op,
-            index: round.index,
-            sum: round.sum,
-        }
-    }
-
-    /// Sets the progress of its round.
-    #[inline(always)]
-    pub(crate) fn go_on(&mut self, round: Round)
-        ensures { self.new ≡ with_round round self.old }
-    {
-        (self.index, self.sum) = (round.index, round.sum);
-    }
-
     /// Returns the act that began it: a Read or an Await.
     #[inline(always)]
     pub fn op(&self) -> Act
         ensures { result ≡ self.now.op }
     {
         self.op
-    }
-
-    /// Returns the eventcount that it reads.
-    #[inline(always)]
-    pub(crate) fn event(&self) -> EventId
-        ensures { result ≡ event_or self.now.op }
-    {
-        match self.op {
-            Act::Read(event) | Act::Await(event, _) => event,
-            _ => unreachable!(),
-        }
     }
 
     /// Returns the component that the next Go reads. If it is 0, an Await just fell short.
@@ -137,12 +85,10 @@ impl UnderWay {
         let index = self.index + 1;
         let sum = counts[self.index].value() + self.sum;
         if index < width {
-            return Effect::GoOn(Round { index, sum });
+            return Effect::GoOn(UnderWay { op: self.op, index, sum });
         }
         match self.op {
-            Act::Await(_, threshold) if sum < threshold => {
-                Effect::GoOn(Round { index: 0, sum: 0 })
-            }
+            Act::Await(_, threshold) if sum < threshold => Effect::GoOn(UnderWay::new(self.op)),
             _ => Effect::End(sum),
         }
     }

@@ -2,7 +2,6 @@
 ghost use Rattle.std.specs.Prelude.{reverse, true, false, if◌then◌else◌, nat_lt, nat_le, ◌≡◌, ◌+◌, ◌*◌, ◌^◌, ◌<◌, ◌≤◌, List, [], ◌∷◌, ◌++◌, length, Some, None, Ok, Err, IfOk, IfSome, OnErr, MatchResult};
 ghost use Rattle.ec_core.specs.declared.act.Entry.{Entry};
 ghost use Rattle.ec_core.specs.Acceptance.{answer_of, refused_or, refusal_in};
-ghost use Rattle.std.specs.Option.{option_map};
 ghost use Rattle.ec_core.specs.Calls.{is_go, under_way};
 ghost use Rattle.ec_core.specs.Following.{opening_act};
 ghost use Rattle.ec_core.specs.Rounds.{component_count};
@@ -10,7 +9,7 @@ ghost use Rattle.ec_core.specs.Counts.{total, signaller_at, component_at, compon
 ghost use Rattle.ec_core.specs.Standing.{StandsFor, progress_of};
 ghost use Rattle.ec_core.specs.Values.{TellsAtMost};
 ghost use Rattle.ec_core.specs.Procedures.{IsReply};
-ghost use Rattle.ec_core.specs.Fields.{stored_progress, component_in, right_in, already_in, is_full_for, read_effect, effect_in, effect_or_refusal, apply_effect, with_round, op_in, still_there, IsNamed, IsRightStep};
+ghost use Rattle.ec_core.specs.Fields.{stored_progress, component_in, right_in, already_in, is_full_for, read_effect, effect_in, effect_or_refusal, apply_effect, op_in, IsNamed, IsRightStep};
 
 use crate::effect::Effect;
 use crate::fields::{
@@ -18,7 +17,6 @@ use crate::fields::{
     raise_in, same_again, ticket_count,
 };
 use crate::signallers::Signallers;
-use crate::under_way::Round;
 use crate::{Act, Entry, Refusal, Reply, UnderWay, VALUE_MAX};
 use ec_count::{CellId, Count, EventId, SeqId, Setup, WorkerId, filled};
 use std::marker::Model;
@@ -29,16 +27,6 @@ fn refuse_if(test: bool, refusal: Refusal) -> Result<(), Refusal>
     ensures { MatchResult result (λ x. test ≡ false) (λ r. (test ≡ true) × (r ≡ refusal)) }
 {
     if test { Err(refusal) } else { Ok(()) }
-}
-
-/// Sets the progress of the round of the call, if there is one.
-#[inline(always)]
-fn go_on(call: &mut Option<UnderWay>, round: Round)
-    ensures { call.new ≡ option_map (with_round round) call.old }
-{
-    if let Some(call) = call {
-        call.go_on(round);
-    }
 }
 
 /// A step that was made: the act that began the call that it is part of, and the reply.
@@ -200,26 +188,10 @@ impl World {
     fn read(&self, call: &UnderWay) -> Effect
         ensures { result ≡ read_effect self.now call.now }
     {
-        let event = call.event();
+        let event = call.op().event();
         let width = component_count(&self.setup, event);
         let counts = &self.counts[event.get()];
         call.read(width, counts)
-    }
-
-    /// Returns the refusal, if the eventcount is not declared.
-    #[inline(always)]
-    fn require_event(&self, event: EventId) -> Result<(), Refusal>
-        ensures { MatchResult result (λ x. nat_le (length self.now.setup.events) event ≡ false) (λ r. (nat_le (length self.now.setup.events) event ≡ true) × (r ≡ Refusal.UnknownObject)) }
-    {
-        refuse_if(event.get() >= self.setup.events(), Refusal::UnknownObject)
-    }
-
-    /// Returns the refusal, if the cell is not declared.
-    #[inline(always)]
-    fn require_cell(&self, cell: CellId) -> Result<(), Refusal>
-        ensures { MatchResult result (λ x. nat_le (length self.now.setup.cells) cell ≡ false) (λ r. (nat_le (length self.now.setup.cells) cell ≡ true) × (r ≡ Refusal.UnknownObject)) }
-    {
-        refuse_if(cell.get() >= self.setup.cells(), Refusal::UnknownObject)
     }
 
     /// Returns the effect of an act that begins a call, or its first refusal.
@@ -234,7 +206,7 @@ impl World {
     {
         match *act {
             Act::Advance(event) => {
-                self.require_event(event)?;
+                refuse_if(event.get() >= self.setup.events(), Refusal::UnknownObject)?;
                 let own = self.own_component(event, worker);
                 let component = own.ok_or(Refusal::NoRight)?;
                 let count = count_in(&self.counts, event.get(), component);
@@ -242,12 +214,10 @@ impl World {
                 Ok(Effect::Raise(event, component))
             }
             Act::Read(event) | Act::Await(event, _) => {
-                self.require_event(event)?;
+                refuse_if(event.get() >= self.setup.events(), Refusal::UnknownObject)?;
                 refuse_if(!self.setup.may_observe(event, worker), Refusal::NoRight)?;
                 refuse_if(is_too_large(act), Refusal::ValueTooLarge)?;
-                let call = UnderWay::new(*act);
-                let effect = self.read(&call);
-                Ok(effect.as_first(&call))
+                Ok(self.read(&UnderWay::new(*act)))
             }
             Act::Go => Err(Refusal::Idle),
             Act::Ticket(sequencer) => {
@@ -261,18 +231,18 @@ impl World {
                 Ok(Effect::Draw(sequencer, count.value()))
             }
             Act::Put(cell, value) => {
-                self.require_cell(cell)?;
+                refuse_if(cell.get() >= self.setup.cells(), Refusal::UnknownObject)?;
                 refuse_if(!self.setup.may_write(cell, worker), Refusal::NoRight)?;
                 refuse_if(is_too_large(act), Refusal::ValueTooLarge)?;
                 Ok(Effect::Put(cell, value))
             }
             Act::Get(cell) => {
-                self.require_cell(cell)?;
+                refuse_if(cell.get() >= self.setup.cells(), Refusal::UnknownObject)?;
                 refuse_if(!self.setup.may_read(cell, worker), Refusal::NoRight)?;
                 Ok(Effect::Get(self.cells[cell.get()]))
             }
             Act::Hand(event, to) => {
-                self.require_event(event)?;
+                refuse_if(event.get() >= self.setup.events(), Refusal::UnknownObject)?;
                 refuse_if(to.get() >= self.setup.workers(), Refusal::UnknownObject)?;
                 let own = self.own_component(event, worker);
                 refuse_if(own.is_none(), Refusal::NoRight)?;
@@ -318,11 +288,7 @@ impl World {
             Effect::Raise(event, component) => {
                 raise_in(&mut self.counts, event.get(), component);
             }
-            Effect::Begin(call) => self.calls[worker.get()] = Some(call),
-            Effect::GoOn(round) => {
-                let call = &mut self.calls[worker.get()];
-                go_on(call, round);
-            }
+            Effect::GoOn(call) => self.calls[worker.get()] = Some(call),
             Effect::End(_) => self.calls[worker.get()] = None,
             Effect::Draw(sequencer, _) => raise_at(&mut self.issued, sequencer.get()),
             Effect::Put(cell, value) => self.cells[cell.get()] = value,
@@ -343,28 +309,6 @@ impl World {
         match (*act, &self.calls[worker.get()]) {
             (Act::Go, Some(call)) => call.op(),
             (other, _) => other,
-        }
-    }
-
-    /// Makes that change, and returns the act that began the call.
-    ///
-    /// This act is read before the change only if the change ends the call. Otherwise it is read
-    /// after it, so that a caller that ignores it does not pay for reading it.
-    #[inline(always)]
-    fn make(&mut self, worker: WorkerId, act: &Act, effect: &Effect) -> Act
-        ensures change { self.new ≡ apply_effect self.old worker effect.now }
-        ensures op { result ≡ op_in (still_there self.old worker effect.now) worker act.now }
-    {
-        match *effect {
-            Effect::End(_) => {
-                let op = self.begun_by(worker, act);
-                self.apply(worker, effect);
-                op
-            }
-            _ => {
-                self.apply(worker, effect);
-                self.begun_by(worker, act)
-            }
         }
     }
 
@@ -413,7 +357,8 @@ impl World {
         ensures err { OnErr result (self.new ≡ self.old) }
     {
         let effect = self.plan(worker, &act)?;
-        let op = self.make(worker, &act, &effect);
+        let op = self.begun_by(worker, &act);
+        self.apply(worker, &effect);
         let reply = effect.reply();
         Ok(Step { op, reply })
     }
