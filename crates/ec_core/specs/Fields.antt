@@ -1,6 +1,6 @@
 -- What a step does to the fields of a world: functions of these fields, not of a history.
 use Rattle.std.specs.Prelude.{◌≡◌, ℕ, ◌+◌, ◌<◌, Bool, false, ◌==◌, nat_le, List, [], ◌∷◌, ◌++◌, reverse, Ok, Option, Some, None, is_some, if◌then◌else◌, slice_get, slice_set, slice_index, Result, unwrap_or}
-use Rattle.std.specs.Option.{option_map_or}
+use Rattle.std.specs.Option.{option_map, option_map_or}
 use Rattle.ec_count.specs.Members.{index_of, is_member}
 use Rattle.ec_count.specs.CountModel.{CountModel, count_up}
 use Rattle.ec_core.specs.declared.act.Act.{Act}
@@ -11,7 +11,7 @@ use Rattle.ec_core.specs.declared.act.Entry.{Entry}
 use Rattle.ec_core.specs.declared.act.Refusal.{Refusal}
 use Rattle.ec_core.specs.declared.effect.Effect.{Effect}
 use Rattle.ec_core.specs.declared.effect.Effect.TheVariants as effects
-use Rattle.ec_core.specs.Progress.{Progress}
+use Rattle.ec_core.specs.Progress.{Progress, RoundSoFar}
 use Rattle.ec_core.specs.Counts.{replace_at}
 use Rattle.ec_core.specs.Rounds.{event_or, component_count, round_reply}
 use Rattle.ec_core.specs.declared.act.TheConstants.{VALUE_MAX}
@@ -62,21 +62,29 @@ abbrev pub count_value : Option CountModel → ℕ
 count_value None = 0
 count_value (Some n) = n.value
 
-abbrev pub new_progress : Act → Progress
-new_progress op = record { op = op; index = 0; sum = 0 }
-
--- the effect of a read with this reply: a number ends the call, otherwise it goes on with this
--- progress
-abbrev pub read_with : Reply → Progress → Effect
-read_with (Number n) u = effects.End n
-read_with _ u = effects.GoOn u
+-- the effect of a read with this reply: a number ends the call, otherwise it continues this round
+abbrev pub read_with : Reply → RoundSoFar → Effect
+read_with (Number n) r = effects.End n
+read_with _ r = effects.GoOn r
 
 -- the effect of one more read of a pending call
 abbrev pub read_component : Act → ℕ → ℕ → ℕ → Effect
 read_component op component_count index sum =
     if nat_le component_count (index + 1)
-    then read_with (round_reply op sum) (new_progress op)
-    else effects.GoOn (record { op = op; index = index + 1; sum = sum })
+    then read_with (round_reply op sum) (record { index = 0; sum = 0 })
+    else effects.GoOn (record { index = index + 1; sum = sum })
+
+abbrev pub new_progress : Act → Progress
+new_progress op = record { op = op; index = 0; sum = 0 }
+
+-- the call with this progress of its round
+abbrev pub with_round : RoundSoFar → Progress → Progress
+with_round r u = record { op = u.op; index = r.index; sum = r.sum }
+
+-- the effect of the first read of a call, given that of a read in a pending call
+abbrev pub as_first : Progress → Effect → Effect
+as_first u (effects.GoOn r) = effects.Begin (with_round r u)
+as_first u e = e
 
 abbrev pub read_effect : State → Progress → Effect
 read_effect s u = read_component u.op (component_count s.setup (event_or u.op)) u.index (count_value (count_at s.counts (event_or u.op) u.index) + u.sum)
@@ -84,9 +92,10 @@ read_effect s u = read_component u.op (component_count s.setup (event_or u.op)) 
 -- the effect of an act of w that is not refused
 abbrev pub effect_in : State → ℕ → Act → Effect
 effect_in s w (Advance e) = effects.Raise e (unwrap_or (component_in s e w) 0)
-effect_in s w (Read e) = read_effect s (new_progress (Read e))
-effect_in s w (Await e v) = read_effect s (new_progress (Await e v))
-effect_in s w Go = option_map_or (read_effect s) (stored_progress s w) (effects.GoOn (new_progress Go))
+effect_in s w (Read e) = as_first (new_progress (Read e)) (read_effect s (new_progress (Read e)))
+effect_in s w (Await e v) =
+    as_first (new_progress (Await e v)) (read_effect s (new_progress (Await e v)))
+effect_in s w Go = option_map_or (read_effect s) (stored_progress s w) (effects.GoOn (record { index = 0; sum = 0 }))
 effect_in s w (Ticket q) = effects.Draw q (count_value (slice_get s.issued q))
 effect_in s w (Put x v) = effects.Put x v
 effect_in s w (Get x) = effects.Get (slice_index s.cells x)
@@ -95,7 +104,8 @@ effect_in s w (Hand e b) = effects.Hand e b
 -- the reply of an effect
 abbrev pub reply_of_effect : Effect → Reply
 reply_of_effect (effects.Raise e c) = Done
-reply_of_effect (effects.GoOn u) = Pending
+reply_of_effect (effects.Begin u) = Pending
+reply_of_effect (effects.GoOn r) = Pending
 reply_of_effect (effects.End n) = Number n
 reply_of_effect (effects.Draw q n) = Number n
 reply_of_effect (effects.Put x v) = Done
@@ -109,7 +119,9 @@ map_at f xs i = option_map_or (λ x. slice_set xs i (f x)) (slice_get xs i) xs
 -- the state after an effect of w
 abbrev pub apply_effect : State → ℕ → Effect → State
 apply_effect s w (effects.Raise e c) = record s { counts = map_at (λ row. map_at count_up row c) s.counts e }
-apply_effect s w (effects.GoOn u) = record s { calls = slice_set s.calls w (Some u) }
+apply_effect s w (effects.Begin u) = record s { calls = slice_set s.calls w (Some u) }
+apply_effect s w (effects.GoOn r) =
+    record s { calls = map_at (option_map (with_round r)) s.calls w }
 apply_effect s w (effects.End n) = record s { calls = slice_set s.calls w None }
 apply_effect s w (effects.Draw q n) = record s { issued = map_at count_up s.issued q }
 apply_effect s w (effects.Put x v) = record s { cells = slice_set s.cells x v }

@@ -8,3 +8,8 @@ pub record Progress : Type 0 where
   pub op : Act
   pub index : ℕ
   pub sum : ℕ
+
+-- the progress of its round
+pub record RoundSoFar : Type 0 where
+  pub index : ℕ
+  pub sum : ℕ

@@ -2,6 +2,7 @@
 ghost use Rattle.std.specs.Prelude.{reverse, true, false, if◌then◌else◌, nat_lt, nat_le, ◌≡◌, ◌+◌, ◌*◌, ◌^◌, ◌<◌, ◌≤◌, List, [], ◌∷◌, ◌++◌, length, Some, None, Ok, Err, IfOk, IfSome, OnErr, MatchResult};
 ghost use Rattle.ec_core.specs.declared.act.Entry.{Entry};
 ghost use Rattle.ec_core.specs.Acceptance.{answer_of, refused_or, refusal_in};
+ghost use Rattle.std.specs.Option.{option_map};
 ghost use Rattle.ec_core.specs.Calls.{is_go, under_way};
 ghost use Rattle.ec_core.specs.Following.{opening_act};
 ghost use Rattle.ec_core.specs.Rounds.{component_count};
@@ -9,7 +10,7 @@ ghost use Rattle.ec_core.specs.Counts.{total, signaller_at, component_at, compon
 ghost use Rattle.ec_core.specs.Standing.{StandsFor, progress_of};
 ghost use Rattle.ec_core.specs.Values.{TellsAtMost};
 ghost use Rattle.ec_core.specs.Procedures.{IsReply};
-ghost use Rattle.ec_core.specs.Fields.{stored_progress, component_in, right_in, already_in, is_full_for, read_effect, effect_in, effect_or_refusal, apply_effect, op_in, IsNamed, IsRightStep};
+ghost use Rattle.ec_core.specs.Fields.{stored_progress, component_in, right_in, already_in, is_full_for, read_effect, effect_in, effect_or_refusal, apply_effect, with_round, op_in, IsNamed, IsRightStep};
 
 use crate::effect::Effect;
 use crate::fields::{
@@ -17,6 +18,7 @@ use crate::fields::{
     raise_in, same_again, ticket_count,
 };
 use crate::signallers::Signallers;
+use crate::under_way::Round;
 use crate::{Act, Entry, Refusal, Reply, UnderWay, VALUE_MAX};
 use ec_count::{CellId, Count, EventId, SeqId, Setup, WorkerId, filled};
 use std::marker::Model;
@@ -27,6 +29,16 @@ fn refuse_if(test: bool, refusal: Refusal) -> Result<(), Refusal>
     ensures { MatchResult result (λ x. test ≡ false) (λ r. (test ≡ true) × (r ≡ refusal)) }
 {
     if test { Err(refusal) } else { Ok(()) }
+}
+
+/// Sets the progress of the round of the call, if there is one.
+#[inline(always)]
+fn go_on(call: &mut Option<UnderWay>, round: Round)
+    ensures { call.new ≡ option_map (with_round round) call.old }
+{
+    if let Some(call) = call {
+        call.go_on(round);
+    }
 }
 
 /// A step that was made: the act that began the call that it is part of, and the reply.
@@ -188,7 +200,7 @@ impl World {
     fn read(&self, call: &UnderWay) -> Effect
         ensures { result ≡ read_effect self.now call.now }
     {
-        let event = call.op().event();
+        let event = call.event();
         let width = component_count(&self.setup, event);
         let counts = &self.counts[event.get()];
         call.read(width, counts)
@@ -217,7 +229,8 @@ impl World {
                 refuse_if(event.get() >= self.setup.events(), Refusal::UnknownObject)?;
                 refuse_if(!self.setup.may_observe(event, worker), Refusal::NoRight)?;
                 refuse_if(is_too_large(act), Refusal::ValueTooLarge)?;
-                Ok(self.read(&UnderWay::new(*act)))
+                let call = UnderWay::new(*act);
+                Ok(self.read(&call).as_first(&call))
             }
             Act::Go => Err(Refusal::Idle),
             Act::Ticket(sequencer) => {
@@ -288,7 +301,11 @@ impl World {
             Effect::Raise(event, component) => {
                 raise_in(&mut self.counts, event.get(), component);
             }
-            Effect::GoOn(call) => self.calls[worker.get()] = Some(call),
+            Effect::Begin(call) => self.calls[worker.get()] = Some(call),
+            Effect::GoOn(round) => {
+                let call = &mut self.calls[worker.get()];
+                go_on(call, round);
+            }
             Effect::End(_) => self.calls[worker.get()] = None,
             Effect::Draw(sequencer, _) => raise_at(&mut self.issued, sequencer.get()),
             Effect::Put(cell, value) => self.cells[cell.get()] = value,

@@ -21,8 +21,8 @@ use Rattle.ec_core.specs.Rounds.{event_or, component_count, sum_read, next_compo
 use Rattle.ec_core.specs.Acceptance.{reply_of, answer_of, refusal_of, refused_or, has_right, is_at_limit, IsAccepted, names_unknown_object, is_too_large, is_not_handable, signals_already}
 use Rattle.ec_core.specs.Calls.{is_go}
 use Rattle.ec_core.specs.Standing.{State, Represents, count_at, call_progress, progress_of}
-use Rattle.ec_core.specs.Progress.{Progress}
-use Rattle.ec_core.specs.Fields.{stored_progress, component_in, right_in, already_in, is_full, is_full_for, count_value, new_progress, read_with, read_component, read_effect, IsNamed}
+use Rattle.ec_core.specs.Progress.{Progress, RoundSoFar}
+use Rattle.ec_core.specs.Fields.{stored_progress, component_in, right_in, already_in, is_full, is_full_for, count_value, read_with, read_component, read_effect, IsNamed}
 use Rattle.ec_core.proofs.shared.Signalling.{signallers_length}
 
 -- a position is within the list
@@ -207,15 +207,19 @@ mod_next n k h =
           suc-mod k n ∙ mod-eq_of_lt lt ∙ one)
     ] refl
 
-way_round : (op : Act) (reply : Reply) (c : ℕ) (f : ℕ → ℕ) → c ≡ 0 → f 0 ≡ 0 → read_with reply (new_progress op) ≡ read_with reply (record { op = op; index = c; sum = f c })
-way_round op Pending c f e z = cc
-way_round op Done c f e z = cc
-way_round op (Number n) c f e z = refl
+-- the progress of the round of a call
+abbrev pub round_of : Progress → RoundSoFar
+round_of u = record { index = u.index; sum = u.sum }
+
+way_round : (reply : Reply) (c : ℕ) (f : ℕ → ℕ) → c ≡ 0 → f 0 ≡ 0 → read_with reply (record { index = 0; sum = 0 }) ≡ read_with reply (record { index = c; sum = f c })
+way_round Pending c f e z = cc
+way_round Done c f e z = cc
+way_round (Number n) c f e z = refl
 
 way_on : (op : Act) (b : Bool) (next c total : ℕ) (f : ℕ → ℕ) → next ≡ cond b 0 (c + 1) → f 0 ≡ 0 → f (c + 1) ≡ total
-    → cond b (read_with (round_reply op total) (new_progress op)) (effects.GoOn (record { op = op; index = c + 1; sum = total }))
-    ≡ read_with (cond b (round_reply op total) Pending) (record { op = op; index = next; sum = f next })
-way_on op true next c total f e z g = way_round op (round_reply op total) next f e z
+    → cond b (read_with (round_reply op total) (record { index = 0; sum = 0 })) (effects.GoOn (record { index = c + 1; sum = total }))
+    ≡ read_with (cond b (round_reply op total) Pending) (record { index = next; sum = f next })
+way_on op true next c total f e z g = way_round (round_reply op total) next f e z
 way_on op false next c total f e z g = cc
 
 -- one more read has the reply that the history says, and a call that stays pending has the progress
@@ -223,7 +227,7 @@ way_on op false next c total f e z g = cc
 pub read_is : (s : State) (past : List Entry) (op : Act) (moments : List (List Entry)) → Represents s past → event_or op < 32
     → 0 < component_count s.setup (event_or op) → next_component s.setup (event_or op) moments < 16
     → read_effect s (call_progress s.setup (record { op = op; moments = moments }))
-    ≡ read_with (read_reply s.setup op past moments) (call_progress s.setup (record { op = op; moments = past ∷ moments }))
+    ≡ read_with (read_reply s.setup op past moments) (round_of (call_progress s.setup (record { op = op; moments = past ∷ moments })))
 unfolding read_reply sum_read
 read_is s past op moments st e some c =
     let n = component_count s.setup (event_or op) in

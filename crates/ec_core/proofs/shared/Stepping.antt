@@ -17,15 +17,15 @@ use Rattle.ec_core.specs.declared.act.Entry.{Entry}
 use Rattle.ec_core.specs.declared.act.Refusal.{Refusal}
 use Rattle.ec_core.specs.declared.effect.Effect.{Effect}
 use Rattle.ec_core.specs.declared.effect.Effect.TheVariants as effects
-use Rattle.ec_core.specs.Progress.{Progress}
+use Rattle.ec_core.specs.Progress.{Progress, RoundSoFar}
 use Rattle.ec_core.specs.Following.{opening_act}
 use Rattle.ec_core.specs.Counts.{replace_at, signallers_at, signallers_after, component_at, component_total, issued, cell_value, is_advance, is_ticket, put_in, is_place}
 use Rattle.ec_core.specs.Calls.{CallSoFar, under_way, is_pending, call_with_act}
 use Rattle.ec_core.specs.Rounds.{event_or, component_count, sum_read, next_component, round_reply, read_reply, go_reply}
 use Rattle.ec_core.specs.Acceptance.{reply_of, answer_of, refusal_of, refusal_in, refused_or, has_right, is_at_limit}
 use Rattle.ec_core.specs.Standing.{State, Represents, count_at, call_progress, progress_of, StandsFor}
-use Rattle.ec_core.specs.Fields.{component_in, right_in, already_in, replace_unless_member, is_full_for, count_value, read_with, new_progress, read_effect, effect_in, reply_of_effect, apply_effect, op_in, IsNamed, effect_or_refusal, IsRightStep}
-use Rattle.ec_core.proofs.shared.Answering.{width_few, width_some, kept_is, is_some_map, component_is, right_is, already_is, full_is, read_is, IsReadingCall, IsAllowed, allowed, call_reads, reading_event}
+use Rattle.ec_core.specs.Fields.{component_in, right_in, already_in, replace_unless_member, is_full_for, count_value, read_with, new_progress, read_effect, with_round, as_first, effect_in, reply_of_effect, apply_effect, op_in, IsNamed, effect_or_refusal, IsRightStep}
+use Rattle.ec_core.proofs.shared.Answering.{width_few, width_some, kept_is, is_some_map, component_is, right_is, already_is, full_is, round_of, read_is, IsReadingCall, IsAllowed, allowed, call_reads, reading_event}
 use Rattle.ec_core.proofs.ReplyKinds.{kind_is}
 use Rattle.ec_core.proofs.shared.Bounds.{told_small}
 use Rattle.ec_core.proofs.shared.Handing.{new_signaller}
@@ -110,20 +110,23 @@ shown_if t false call = refl
 
 -- an effect that changes only the worker's call
 abbrev IsOfCall : Effect → Type 0
-IsOfCall (effects.GoOn u) = Unit {0}
+IsOfCall (effects.Begin u) = Unit {0}
+IsOfCall (effects.GoOn r) = Unit {0}
 IsOfCall (effects.End n) = Unit {0}
 IsOfCall _ = ⊥
 
--- the call after it
-abbrev left_by : Effect → Option Progress
-left_by (effects.GoOn u) = Some u
-left_by _ = None
+-- the call after it, given the one before it
+abbrev left_by : Option Progress → Effect → Option Progress
+left_by o (effects.Begin u) = Some u
+left_by o (effects.GoOn r) = option_map (with_round r) o
+left_by o (effects.End n) = None
+left_by o _ = o
 
--- the effect of a read: its reply, and the call after it
-record IsReadAs (reply : Reply) (after : Option Progress) (e : Effect) : Type 0 where
+-- the effect of a read: its reply, and the call after it, given the one before it
+record IsReadAs (reply : Reply) (before after : Option Progress) (e : Effect) : Type 0 where
   of_call : IsOfCall e
   told_is : reply_of_effect e ≡ reply
-  left : left_by e ≡ after
+  left : left_by before e ≡ after
 
 -- which replies a read may get
 abbrev IsToRead : Reply → Type 0
@@ -151,43 +154,64 @@ reply_reads t op past moments =
     let c = next_component t (event_or op) moments in
     either_reads (nat_le (component_count t (event_or op)) (c + 1)) op (sum_read t (event_or op) (suc c) (past ∷ moments))
 
-read_as : (u : Progress) (reply : Reply) → IsToRead reply → IsReadAs reply (cond (is_pending reply) (Some u) None) (read_with reply u)
-read_as u Done h = absurd h
-read_as u (Number n) h = record { of_call = tt; told_is = refl; left = refl }
-read_as u Pending h = record { of_call = tt; told_is = refl; left = refl }
+first_as : (op : Act) (reply : Reply) (r : RoundSoFar) (o : Option Progress) → IsToRead reply
+    → IsReadAs reply o (cond (is_pending reply) (Some (with_round r (new_progress op))) None) (as_first (new_progress op) (read_with reply r))
+first_as op Done r o h = absurd h
+first_as op (Number n) r o h = record { of_call = tt; told_is = refl; left = refl }
+first_as op Pending r o h = record { of_call = tt; told_is = refl; left = refl }
 
--- one more read of a call
-reads_as : (s : State) (past : List Entry) (op : Act) (moments : List (List Entry)) → Represents s past → event_or op < 32 → 0 < component_count s.setup (event_or op)
-    → next_component s.setup (event_or op) moments < 16
-    → IsReadAs (read_reply s.setup op past moments) (option_map (call_progress s.setup) (cond (is_pending (read_reply s.setup op past moments)) (Some (record { op = op; moments = past ∷ moments })) None))
-    (read_effect s (call_progress s.setup (record { op = op; moments = moments })))
-reads_as s past op moments st lt some next =
-    let t = s.setup in
-    let reply : Reply = read_reply t op past moments in
-    let later : CallSoFar = record { op = op; moments = past ∷ moments } in
-    subst (IsReadAs reply (option_map (call_progress t) (cond (is_pending reply) (Some later) None))) (sym (read_is s past op moments st lt some next))
-    (subst (λ after. IsReadAs reply after (read_with reply (call_progress t later))) (shown_if t (is_pending reply) later) (read_as (call_progress t later) reply (reply_reads t op past moments)))
+later_as : (u : Progress) (reply : Reply) (r : RoundSoFar) → IsToRead reply → IsReadAs reply (Some u) (cond (is_pending reply) (Some (with_round r u)) None) (read_with reply r)
+later_as u Done r h = absurd h
+later_as u (Number n) r h = record { of_call = tt; told_is = refl; left = refl }
+later_as u Pending r h = record { of_call = tt; told_is = refl; left = refl }
 
 -- a first read
-begin_is : (s : State) (past : List Entry) (op : Act) → Represents s past → event_or op < 32 → 0 < component_count s.setup (event_or op)
-    → IsReadAs (read_reply s.setup op past []) (option_map (call_progress s.setup) (cond (is_pending (read_reply s.setup op past [])) (Some (record { op = op; moments = past ∷ [] })) None))
-    (read_effect s (new_progress op))
-begin_is s past op st lt some =
-    let reply : Reply = read_reply s.setup op past [] in
-    subst (λ u. IsReadAs reply (option_map (call_progress s.setup) (cond (is_pending reply) (Some (record { op = op; moments = past ∷ [] })) None)) (read_effect s u))
-    (begun_is s.setup op) (reads_as s past op [] st lt some (first_small (component_count s.setup (event_or op))))
+begin_is : (s : State) (past : List Entry) (op : Act) (o : Option Progress) → Represents s past → event_or op < 32 → 0 < component_count s.setup (event_or op)
+    → IsReadAs (read_reply s.setup op past []) o (option_map (call_progress s.setup) (cond (is_pending (read_reply s.setup op past [])) (Some (record { op = op; moments = past ∷ [] })) None))
+    (as_first (new_progress op) (read_effect s (new_progress op)))
+begin_is s past op o st lt some =
+    let t = s.setup in
+    let reply : Reply = read_reply t op past [] in
+    let call : CallSoFar = record { op = op; moments = past ∷ [] } in
+    let r : RoundSoFar = round_of (call_progress t call) in
+    let is : read_effect s (new_progress op) ≡ read_with reply r =
+    ap (read_effect s) (sym (begun_is t op)) ∙ read_is s past op [] st lt some (first_small (component_count t (event_or op))) in
+    subst (λ e. IsReadAs reply o (option_map (call_progress t) (cond (is_pending reply) (Some call) None)) (as_first (new_progress op) e)) (sym is)
+    (subst (λ after. IsReadAs reply o after (as_first (new_progress op) (read_with reply r))) (shown_if t (is_pending reply) call) (first_as op reply r o (reply_reads t op past [])))
 
 -- a Go
-go_is : (s : State) (past : List Entry) → Represents s past → (o : Option CallSoFar) → IsReadingCall s.setup o → (not (is_some o) && true) ≡ false
-    → IsReadAs (go_reply s.setup past o) (option_map (call_progress s.setup) (cond (is_pending (go_reply s.setup past o)) (call_with_act Go past o) None))
-    (option_map_or (read_effect s) (option_map (call_progress s.setup) o) (effects.GoOn (new_progress Go)))
-go_is s past st None h going = cc
-go_is s past st (Some call) h going =
+go_is : (s : State) (past : List Entry) → Represents s past → (o : Option CallSoFar) → IsReadingCall s.setup o
+    → IsReadAs (go_reply s.setup past o) (option_map (call_progress s.setup) o) (option_map (call_progress s.setup) (cond (is_pending (go_reply s.setup past o)) (call_with_act Go past o) None))
+    (option_map_or (read_effect s) (option_map (call_progress s.setup) o) (effects.GoOn (record { index = 0; sum = 0 })))
+go_is s past st None h = record { of_call = tt; told_is = refl; left = refl }
+go_is s past st (Some call) h =
     let t = s.setup in
-    let some : 0 < component_count t (event_or call.op) =
-    width_some t (event_or call.op) st.declared (reading_event t call.op h) in
     let known : event_or call.op < length t.events = reading_event t call.op h in
-    reads_as s past call.op call.moments st (omega (arith, st.declared.few)) some (next_small t (event_or call.op) call.moments st.declared some)
+    let some : 0 < component_count t (event_or call.op) =
+    width_some t (event_or call.op) st.declared known in
+    let reply : Reply = read_reply t call.op past call.moments in
+    let later : CallSoFar = record { op = call.op; moments = past ∷ call.moments } in
+    let r : RoundSoFar = round_of (call_progress t later) in
+    let is : read_effect s (call_progress t call) ≡ read_with reply r =
+    read_is s past call.op call.moments st (omega (arith, st.declared.few)) some (next_small t (event_or call.op) call.moments st.declared some) in
+    subst (IsReadAs reply (Some (call_progress t call)) (option_map (call_progress t) (cond (is_pending reply) (Some later) None))) (sym is)
+    (subst (λ after. IsReadAs reply (Some (call_progress t call)) after (read_with reply r)) (shown_if t (is_pending reply) later) (later_as (call_progress t call) reply r (reply_reads t call.op past call.moments)))
+
+-- a step that continues the worker's call
+calls_gone : (s : State) (past : List Entry) (x : Entry) (r : RoundSoFar) → Represents s past
+    → option_map (with_round r) (progress_of s.setup x.worker past) ≡ option_map (call_progress s.setup) (cond (is_pending x.reply) (call_with_act x.act past (under_way x.worker past)) None)
+    → (v : ℕ) → v < 16 → slice_get (apply_effect s x.worker (effects.GoOn r)).calls v ≡ Some (progress_of s.setup v (x ∷ past))
+unfolding under_way
+calls_gone s past x r st is v lt =
+    get_changed (option_map (with_round r)) s.calls x.worker v
+    ∙ ap (λ o. cond (x.worker == v) (option_map (option_map (with_round r)) o) o) (st.calls v lt)
+    ∙ (elim (x.worker == v) as (λ b. (x.worker == v) ≡ b → cond b (Some (option_map (with_round r) (progress_of s.setup v past))) (Some (progress_of s.setup v past))
+    ≡ Some (option_map (call_progress s.setup) (cond b (cond (is_pending x.reply) (call_with_act x.act past (under_way v past)) None) (under_way v past)))) [
+      | true ↦ λ h.
+          (let same : x.worker ≡ v = eqb-true x.worker v h in
+          subst (λ u. Some (option_map (with_round r) (progress_of s.setup u past)) ≡ Some (option_map (call_progress s.setup) (cond (is_pending x.reply) (call_with_act x.act past (under_way u past)) None))) same (ap Some is))
+      | false ↦ λ h. refl
+    ] refl)
 
 -- ONE STEP
 
@@ -303,9 +327,10 @@ read_by s past x calls st h no_advance no_ticket no_put no_hand is = record {
 read_stands : (s : State) (past : List Entry) (x : Entry) (e : Effect) → Represents s past → x.worker < 16 → answer_of s.setup past x.worker x.act ≡ Ok x.reply
     → ((e : ℕ) → is_advance e x.act ≡ false) → ((q : ℕ) → is_ticket q x.act ≡ false) → ((y : ℕ) → put_in y x.act ≡ None)
     → ((e : ℕ) (ws : List ℕ) → signallers_after e x.worker x.act ws ≡ ws) → IsOfCall e
-    → left_by e ≡ option_map (call_progress s.setup) (cond (is_pending x.reply) (call_with_act x.act past (under_way x.worker past)) None)
+    → left_by (progress_of s.setup x.worker past) e ≡ option_map (call_progress s.setup) (cond (is_pending x.reply) (call_with_act x.act past (under_way x.worker past)) None)
     → Represents (apply_effect s x.worker e) (x ∷ past)
-read_stands s past x (effects.GoOn u) st small h a t p n of is = read_by s past x (slice_set s.calls x.worker (Some u)) st h a t p n (calls_set s past x (Some u) st small is)
+read_stands s past x (effects.Begin u) st small h a t p n of is = read_by s past x (slice_set s.calls x.worker (Some u)) st h a t p n (calls_set s past x (Some u) st small is)
+read_stands s past x (effects.GoOn r) st small h a t p n of is = read_by s past x (apply_effect s x.worker (effects.GoOn r)).calls st h a t p n (calls_gone s past x r st is)
 read_stands s past x (effects.End m) st small h a t p n of is = read_by s past x (slice_set s.calls x.worker None) st h a t p n (calls_set s past x None st small is)
 read_stands s past x (effects.Raise e c) st small h a t p n of is = absurd of
 read_stands s past x (effects.Draw q m) st small h a t p n of is = absurd of
@@ -353,7 +378,7 @@ IsRight s past w act reply e = (reply_of_effect e ≡ reply)
 
 read_step : (s : State) (past : List Entry) (w : ℕ) (act : Act) (reply : Reply) → Represents s past → w < 16 → answer_of s.setup past w act ≡ Ok reply
     → ((e : ℕ) → is_advance e act ≡ false) → ((q : ℕ) → is_ticket q act ≡ false) → ((y : ℕ) → put_in y act ≡ None) → ((e : ℕ) (ws : List ℕ) → signallers_after e w act ws ≡ ws)
-    → IsReadAs reply (option_map (call_progress s.setup) (cond (is_pending reply) (call_with_act act past (under_way w past)) None)) (effect_in s w act)
+    → IsReadAs reply (progress_of s.setup w past) (option_map (call_progress s.setup) (cond (is_pending reply) (call_with_act act past (under_way w past)) None)) (effect_in s w act)
     → IsRight s past w act reply (effect_in s w act)
 read_step s past w act reply st lt h no_advance no_ticket no_put no_hand is =
     (is.told_is, read_stands s past (entry w act reply) (effect_in s w act) st lt h no_advance no_ticket no_put no_hand is.of_call is.left)
@@ -369,17 +394,17 @@ step_is s past w (Advance e) st lt named a h =
     (refl, advance_stands s past w e (unwrap_or (component_at s.setup e past w) 0) st h (none_of (under_way w past) a.free) at room)
 step_is s past w (Read e) st lt named a h =
     read_step s past w (Read e) _ st lt h (λ e. refl) (λ q. refl) (λ y. refl) (λ e ws. refl)
-    (begin_is s past (Read e) st named (width_some s.setup e st.declared (known_below (length s.setup.events) e a.known)))
+    (begin_is s past (Read e) (progress_of s.setup w past) st named (width_some s.setup e st.declared (known_below (length s.setup.events) e a.known)))
 step_is s past w (Await e v) st lt named a h =
     read_step s past w (Await e v) _ st lt h (λ e. refl) (λ q. refl) (λ y. refl) (λ e ws. refl)
-    (begin_is s past (Await e v) st named (width_some s.setup e st.declared (known_below (length s.setup.events) e a.known)))
+    (begin_is s past (Await e v) (progress_of s.setup w past) st named (width_some s.setup e st.declared (known_below (length s.setup.events) e a.known)))
 step_is s past w Go st lt named a h =
     read_step s past w Go _ st lt h (λ e. refl) (λ q. refl) (λ y. refl) (λ e ws. refl)
     (subst
-    (λ o. IsReadAs (go_reply s.setup past (under_way w past))
+    (λ o. IsReadAs (go_reply s.setup past (under_way w past)) (progress_of s.setup w past)
     (option_map (call_progress s.setup) (cond (is_pending (go_reply s.setup past (under_way w past))) (call_with_act Go past (under_way w past)) None))
-    (option_map_or (read_effect s) o (effects.GoOn (new_progress Go))))
-    (sym (kept_is s past w st lt)) (go_is s past st (under_way w past) (call_reads s.setup past w st.accepted) a.going))
+    (option_map_or (read_effect s) o (effects.GoOn (record { index = 0; sum = 0 }))))
+    (sym (kept_is s past w st lt)) (go_is s past st (under_way w past) (call_reads s.setup past w st.accepted)))
 step_is s past w (Ticket q) st lt named a h =
     subst (λ o. IsRight s past w (Ticket q) (Number (issued q past)) (effects.Draw q (count_value o))) (sym (st.issued q named))
     (refl, ticket_stands s past w q (issued q past) st h (none_of (under_way w past) a.free) a.room)

@@ -9,9 +9,9 @@ pub returns : goal.returns
 returns c =
     let s = c.args.self.now in
     let u = c.args.call.now in
-    let event : c.get.result ≡ event_or u.op = c.get.ensures.value ∙ c.event-event.ensures ∙ ap event_or c.op.ensures in
+    let event : c.get.result ≡ event_or u.op = c.get.ensures.value ∙ c.event-event.ensures in
     let wide : c.component_count-width.result ≡ component_count s.setup (event_or u.op) =
-    c.component_count-width.ensures.value ∙ ap (λ (s : State). component_count s.setup c.event-event.result) c.self.view_is ∙ ap (component_count s.setup) (c.event-event.ensures ∙ ap event_or c.op.ensures) in
+    c.component_count-width.ensures.value ∙ ap (λ (s : State). component_count s.setup c.event-event.result) c.self.view_is ∙ ap (component_count s.setup) c.event-event.ensures in
     c.read.ensures
     ∙ ap (λ o. read_component u.op c.component_count-width.result u.index (count_value o + u.sum))
     (row_read c.self.inside.counts c.get.result u.index ∙ ap (λ (s : State). count_at s.counts c.get.result u.index) c.self.view_is
