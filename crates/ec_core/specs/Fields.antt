@@ -133,12 +133,6 @@ abbrev pub op_in : State → ℕ → Act → Act
 op_in s w Go = option_map_or (λ u. u.op) (stored_progress s w) Go
 op_in s w act = act
 
--- the state that has the call of a step: the one before a step that ends it, otherwise the one
--- after the step
-abbrev pub still_there : State → ℕ → Effect → State
-still_there s w (effects.End n) = s
-still_there s w e = apply_effect s w e
-
 -- the id that an act names is within its bound
 abbrev pub IsNamed : Act → Type 0
 IsNamed (Advance e) = e < 32
@@ -163,4 +157,4 @@ pub record IsRightStep (s : State) (h : List Entry) (w : ℕ) (act : Act) (e : E
   pub kind : IsReply act (reply_of_effect e)
   pub after : StandsFor (apply_effect s w e) (h
       ++ record { worker = w; act = act; reply = reply_of_effect e } ∷ [])
-  pub op : op_in (still_there s w e) w act ≡ opening_act act (under_way w (reverse h))
+  pub op : op_in s w act ≡ opening_act act (under_way w (reverse h))

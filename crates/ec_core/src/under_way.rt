@@ -10,7 +10,7 @@ use std::marker::Model;
 
 /// The progress of the round of a call: the component that the next Go reads, and the sum of those
 /// before it.
-#[derive(Clone, Copy)]
+#[derive(Clone, Copy, Debug, PartialEq, Eq)]
 pub(crate) struct Round {
     index: usize,
     sum: u64,
@@ -29,29 +29,25 @@ impl Model for Round {
     ghost inverse = { λ r. record { index = r.index; sum = r.sum } };
 }
 
-/// A pending call, with the progress of its round.
-///
-/// It has the act that began it, the component that the next Go reads, and the sum of the round so
-/// far.
+/// A pending call: the act that began it, and the progress of its round.
 #[derive(Clone, Copy, Debug, PartialEq, Eq)]
 pub struct UnderWay {
     op: Act,
-    index: usize,
-    sum: u64,
+    round: Round,
 }
 
 impl Model for UnderWay {
-    ghost use Rattle.std.specs.Prelude.{◌*◌, ◌^◌, ◌<◌, ◌≤◌, IsSome};
+    ghost use Rattle.std.specs.Prelude.{IsSome};
     ghost use Rattle.ec_core.specs.Progress.{Progress};
     ghost use Rattle.ec_core.specs.Rounds.{read_event};
 
     ghost Value = { Progress };
 
-    ghost view = { λ u. record { op = u.op; index = u.index; sum = u.sum } };
+    ghost view = { λ u. record { op = u.op; index = u.round.index; sum = u.round.sum } };
 
-    ghost invariant = { λ u. (u.index < 16) × (u.sum ≤ u.index * 2 ^ 48) × IsSome (read_event u.op) };
+    ghost invariant = { λ u. IsSome (read_event u.op) };
 
-    ghost inverse = { λ u. record { op = u.op; index = u.index; sum = u.sum } };
+    ghost inverse = { λ u. record { op = u.op; round = record { index = u.index; sum = u.sum } } };
 }
 
 impl UnderWay {
@@ -62,8 +58,7 @@ impl UnderWay {
     {
         UnderWay {
             op,
-            index: 0,
-            sum: 0,
+            round: Round { index: 0, sum: 0 },
         }
     }
 
@@ -72,11 +67,7 @@ impl UnderWay {
     pub(crate) fn at(&self, round: Round) -> Self
         ensures { result ≡ with_round round self.now }
     {
-        UnderWay {
-            op: self.op,
-            index: round.index,
-            sum: round.sum,
-        }
+        UnderWay { op: self.op, round }
     }
 
     /// Sets the progress of its round.
@@ -84,7 +75,7 @@ impl UnderWay {
     pub(crate) fn go_on(&mut self, round: Round)
         ensures { self.new ≡ with_round round self.old }
     {
-        (self.index, self.sum) = (round.index, round.sum);
+        self.round = round;
     }
 
     /// Returns the act that began it: a Read or an Await.
@@ -111,7 +102,7 @@ impl UnderWay {
         ensures value { result ≡ self.now.index }
         ensures small { result < 16 }
     {
-        self.index
+        self.round.index
     }
 
     /// Returns the sum of the components that its round has read so far.
@@ -120,8 +111,7 @@ impl UnderWay {
         ensures small { result ≤ self.now.index * 2 ^ 48 }
         ensures below { result ≤ 15 * 2 ^ 48 }
     {
-        let _index = self.index;
-        self.sum
+        self.round.sum
     }
 
     /// Returns the effect of reading its next component, given how many there are, and their
@@ -134,8 +124,8 @@ impl UnderWay {
         requires { width ≤ 16 }
         ensures { result ≡ read_component self.now.op width self.now.index (count_value (slice_get counts.now self.now.index) + self.now.sum) }
     {
-        let index = self.index + 1;
-        let sum = counts[self.index].value() + self.sum;
+        let index = self.round.index + 1;
+        let sum = counts[self.round.index].value() + self.round.sum;
         if index < width {
             return Effect::GoOn(Round { index, sum });
         }

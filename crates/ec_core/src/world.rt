@@ -10,7 +10,7 @@ ghost use Rattle.ec_core.specs.Counts.{total, signaller_at, component_at, compon
 ghost use Rattle.ec_core.specs.Standing.{StandsFor, progress_of};
 ghost use Rattle.ec_core.specs.Values.{TellsAtMost};
 ghost use Rattle.ec_core.specs.Procedures.{IsReply};
-ghost use Rattle.ec_core.specs.Fields.{stored_progress, component_in, right_in, already_in, is_full_for, read_effect, effect_in, effect_or_refusal, apply_effect, with_round, op_in, still_there, IsNamed, IsRightStep};
+ghost use Rattle.ec_core.specs.Fields.{stored_progress, component_in, right_in, already_in, is_full_for, read_effect, effect_in, effect_or_refusal, apply_effect, with_round, op_in, IsNamed, IsRightStep};
 
 use crate::effect::Effect;
 use crate::fields::{
@@ -206,22 +206,6 @@ impl World {
         call.read(width, counts)
     }
 
-    /// Returns the refusal, if the eventcount is not declared.
-    #[inline(always)]
-    fn require_event(&self, event: EventId) -> Result<(), Refusal>
-        ensures { MatchResult result (λ x. nat_le (length self.now.setup.events) event ≡ false) (λ r. (nat_le (length self.now.setup.events) event ≡ true) × (r ≡ Refusal.UnknownObject)) }
-    {
-        refuse_if(event.get() >= self.setup.events(), Refusal::UnknownObject)
-    }
-
-    /// Returns the refusal, if the cell is not declared.
-    #[inline(always)]
-    fn require_cell(&self, cell: CellId) -> Result<(), Refusal>
-        ensures { MatchResult result (λ x. nat_le (length self.now.setup.cells) cell ≡ false) (λ r. (nat_le (length self.now.setup.cells) cell ≡ true) × (r ≡ Refusal.UnknownObject)) }
-    {
-        refuse_if(cell.get() >= self.setup.cells(), Refusal::UnknownObject)
-    }
-
     /// Returns the effect of an act that begins a call, or its first refusal.
     ///
     /// The worker is declared and has no pending call, so the refusal comes after `Idle` in their
@@ -234,7 +218,7 @@ impl World {
     {
         match *act {
             Act::Advance(event) => {
-                self.require_event(event)?;
+                refuse_if(event.get() >= self.setup.events(), Refusal::UnknownObject)?;
                 let own = self.own_component(event, worker);
                 let component = own.ok_or(Refusal::NoRight)?;
                 let count = count_in(&self.counts, event.get(), component);
@@ -242,12 +226,11 @@ impl World {
                 Ok(Effect::Raise(event, component))
             }
             Act::Read(event) | Act::Await(event, _) => {
-                self.require_event(event)?;
+                refuse_if(event.get() >= self.setup.events(), Refusal::UnknownObject)?;
                 refuse_if(!self.setup.may_observe(event, worker), Refusal::NoRight)?;
                 refuse_if(is_too_large(act), Refusal::ValueTooLarge)?;
                 let call = UnderWay::new(*act);
-                let effect = self.read(&call);
-                Ok(effect.as_first(&call))
+                Ok(self.read(&call).as_first(&call))
             }
             Act::Go => Err(Refusal::Idle),
             Act::Ticket(sequencer) => {
@@ -261,18 +244,18 @@ impl World {
                 Ok(Effect::Draw(sequencer, count.value()))
             }
             Act::Put(cell, value) => {
-                self.require_cell(cell)?;
+                refuse_if(cell.get() >= self.setup.cells(), Refusal::UnknownObject)?;
                 refuse_if(!self.setup.may_write(cell, worker), Refusal::NoRight)?;
                 refuse_if(is_too_large(act), Refusal::ValueTooLarge)?;
                 Ok(Effect::Put(cell, value))
             }
             Act::Get(cell) => {
-                self.require_cell(cell)?;
+                refuse_if(cell.get() >= self.setup.cells(), Refusal::UnknownObject)?;
                 refuse_if(!self.setup.may_read(cell, worker), Refusal::NoRight)?;
                 Ok(Effect::Get(self.cells[cell.get()]))
             }
             Act::Hand(event, to) => {
-                self.require_event(event)?;
+                refuse_if(event.get() >= self.setup.events(), Refusal::UnknownObject)?;
                 refuse_if(to.get() >= self.setup.workers(), Refusal::UnknownObject)?;
                 let own = self.own_component(event, worker);
                 refuse_if(own.is_none(), Refusal::NoRight)?;
@@ -346,28 +329,6 @@ impl World {
         }
     }
 
-    /// Makes that change, and returns the act that began the call.
-    ///
-    /// This act is read before the change only if the change ends the call. Otherwise it is read
-    /// after it, so that a caller that ignores it does not pay for reading it.
-    #[inline(always)]
-    fn make(&mut self, worker: WorkerId, act: &Act, effect: &Effect) -> Act
-        ensures change { self.new ≡ apply_effect self.old worker effect.now }
-        ensures op { result ≡ op_in (still_there self.old worker effect.now) worker act.now }
-    {
-        match *effect {
-            Effect::End(_) => {
-                let op = self.begun_by(worker, act);
-                self.apply(worker, effect);
-                op
-            }
-            _ => {
-                self.apply(worker, effect);
-                self.begun_by(worker, act)
-            }
-        }
-    }
-
     /// Returns what `step` would return, and changes nothing.
     #[inline(always)]
     pub fn answer(&self, worker: WorkerId, act: &Act) -> Result<Reply, Refusal>
@@ -413,7 +374,8 @@ impl World {
         ensures err { OnErr result (self.new ≡ self.old) }
     {
         let effect = self.plan(worker, &act)?;
-        let op = self.make(worker, &act, &effect);
+        let op = self.begun_by(worker, &act);
+        self.apply(worker, &effect);
         let reply = effect.reply();
         Ok(Step { op, reply })
     }

@@ -24,7 +24,7 @@ use Rattle.ec_core.specs.Calls.{CallSoFar, under_way, is_pending, call_with_act}
 use Rattle.ec_core.specs.Rounds.{event_or, component_count, sum_read, next_component, round_reply, read_reply, go_reply}
 use Rattle.ec_core.specs.Acceptance.{reply_of, answer_of, refusal_of, refusal_in, refused_or, has_right, is_at_limit}
 use Rattle.ec_core.specs.Standing.{State, Represents, count_at, call_progress, progress_of, StandsFor}
-use Rattle.ec_core.specs.Fields.{component_in, right_in, already_in, replace_unless_member, is_full_for, count_value, read_with, read_component, new_progress, read_effect, with_round, as_first, effect_in, reply_of_effect, apply_effect, stored_progress, op_in, still_there, IsNamed, effect_or_refusal, IsRightStep}
+use Rattle.ec_core.specs.Fields.{component_in, right_in, already_in, replace_unless_member, is_full_for, count_value, read_with, new_progress, read_effect, with_round, as_first, effect_in, reply_of_effect, apply_effect, op_in, IsNamed, effect_or_refusal, IsRightStep}
 use Rattle.ec_core.proofs.shared.Answering.{width_few, width_some, kept_is, is_some_map, component_is, right_is, already_is, full_is, round_of, read_is, IsReadingCall, IsAllowed, allowed, call_reads, reading_event}
 use Rattle.ec_core.proofs.ReplyKinds.{kind_is}
 use Rattle.ec_core.proofs.shared.Bounds.{told_small}
@@ -153,11 +153,6 @@ unfolding read_reply
 reply_reads t op past moments =
     let c = next_component t (event_or op) moments in
     either_reads (nat_le (component_count t (event_or op)) (c + 1)) op (sum_read t (event_or op) (suc c) (past ∷ moments))
-
-with_of_call : (reply : Reply) (r : RoundSoFar) → IsOfCall (read_with reply r)
-with_of_call Done r = tt
-with_of_call (Number n) r = tt
-with_of_call Pending r = tt
 
 first_as : (op : Act) (reply : Reply) (r : RoundSoFar) (o : Option Progress) → IsToRead reply
     → IsReadAs reply o (cond (is_pending reply) (Some (with_round r (new_progress op))) None) (as_first (new_progress op) (read_with reply r))
@@ -435,54 +430,6 @@ op_is s past w (Put x v) st lt = refl
 op_is s past w (Get x) st lt = refl
 op_is s past w (Hand e b) st lt = refl
 
-opened_on : (past : List Entry) (o : Option CallSoFar)
-    → opening_act Go (call_with_act Go past o) ≡ opening_act Go o
-opened_on past None = refl
-opened_on past (Some call) = refl
-
--- after a go with the reply Pending the same act began the call
-op_after : (s : State) (past : List Entry) (w : ℕ) (reply : Reply) → Represents s (entry w Go reply ∷ past) → w < 16 → Pending ≡ reply → op_in s w Go ≡ opening_act Go (under_way w past)
-unfolding under_way
-op_after s past w reply st lt reply_of_effect =
-    op_is s (entry w Go reply ∷ past) w Go st lt
-    ∙ ap (λ b. opening_act Go (cond b (cond (is_pending reply) (call_with_act Go past (under_way w past)) None) (under_way w past))) (eq-eqb w w refl)
-    ∙ ap (λ p. opening_act Go (cond (is_pending p) (call_with_act Go past (under_way w past)) None)) (sym reply_of_effect) ∙ opened_on past (under_way w past)
-
-one_of_call : (op : Act) (component_count index sum : ℕ)
-    → IsOfCall (read_component op component_count index sum)
-one_of_call op component_count index sum =
-    elim (nat_le component_count (index + 1)) as (λ b. IsOfCall (cond b (read_with (round_reply op sum) (record { index = 0; sum = 0 })) (effects.GoOn (record { index = index + 1; sum = sum })))) [
-      | true ↦ with_of_call (round_reply op sum) (record { index = 0; sum = 0 })
-      | false ↦ tt
-    ]
-
-next_of_call : (s : State) (o : Option Progress) → IsOfCall (option_map_or (read_effect s) o (effects.GoOn (record { index = 0; sum = 0 })))
-next_of_call s None = tt
-next_of_call s (Some u) = one_of_call u.op (component_count s.setup (event_or u.op)) u.index (count_value (count_at s.counts (event_or u.op) u.index) + u.sum)
-
-go_op : (s : State) (past : List Entry) (w : ℕ) (reply : Reply) (e : Effect) → Represents s past → w < 16 → IsOfCall e → IsRight s past w Go reply e
-    → op_in (still_there s w e) w Go ≡ opening_act Go (under_way w past)
-go_op s past w reply (effects.Begin u) st lt of k = op_after (apply_effect s w (effects.Begin u)) past w reply k.1 lt k.0
-go_op s past w reply (effects.GoOn r) st lt of k = op_after (apply_effect s w (effects.GoOn r)) past w reply k.1 lt k.0
-go_op s past w reply (effects.End n) st lt of k = op_is s past w Go st lt
-go_op s past w reply (effects.Raise e c) st lt of k = absurd of
-go_op s past w reply (effects.Draw q n) st lt of k = absurd of
-go_op s past w reply (effects.Put x v) st lt of k = absurd of
-go_op s past w reply (effects.Get n) st lt of k = absurd of
-go_op s past w reply (effects.Hand e b) st lt of k = absurd of
-
--- if the call is still there, the world has the act that began it
-op_right : (s : State) (past : List Entry) (w : ℕ) (act : Act) (reply : Reply) → Represents s past → w < 16 → IsRight s past w act reply (effect_in s w act)
-    → op_in (still_there s w (effect_in s w act)) w act ≡ opening_act act (under_way w past)
-op_right s past w Go reply st lt k = go_op s past w reply (effect_in s w Go) st lt (next_of_call s (stored_progress s w)) k
-op_right s past w (Advance e) reply st lt k = refl
-op_right s past w (Read e) reply st lt k = refl
-op_right s past w (Await e v) reply st lt k = refl
-op_right s past w (Ticket q) reply st lt k = refl
-op_right s past w (Put x v) reply st lt k = refl
-op_right s past w (Get x) reply st lt k = refl
-op_right s past w (Hand e b) reply st lt k = refl
-
 -- THE FIRST STATE
 
 pub open_stands : (t : Tables) (signal : List (List ℕ)) (zeros : List (List CountModel)) (row issued : List CountModel) (cells : List ℕ) (calls : List (Option Progress)) (nought : CountModel)
@@ -520,7 +467,7 @@ plan_by s h w act st lt named None is =
       small = told_small s.setup (reverse h) w act (reply_of_effect e) st.declared st.accepted answer;
       kind = kind_is s.setup (reverse h) w act (reply_of_effect e) st.declared st.accepted answer;
       after = rw (past_after h (entry w act (reply_of_effect e))) (subst (λ r. Represents (apply_effect s w e) (entry w act r ∷ reverse h)) (sym k.0) k.1);
-      op = op_right s (reverse h) w act (reply_of s.setup (reverse h) w act) st lt k;
+      op = op_is s (reverse h) w act st lt;
     }
 
 -- the effect that the fields of a world give is right after its history
