@@ -1,9 +1,6 @@
-use Rattle.std.proofs.Common.{◌≡◌, List, ℕ, Ok, Err, subst, IfSome}
+use Rattle.std.proofs.Common.{◌≡◌, List, ℕ, Ok, Err, subst}
 use Rattle.std.proofs.KnownBytes.{Keeps-refl}
-use Rattle.ec_script.specs.declared.parsing.TheConstants.{SCRIPT_MAX}
 use Rattle.ec_script.specs.Outcome.{parse_result, shown_plan}
-use Rattle.ec_text.specs.Inputs.{IsInput}
-use Rattle.ec_text.specs.declared.input.Input.{Input}
 use Rattle.evc_scripts.proofs.Ends.{plan_runs, run_refused}
 use Rattle.evc_scripts.proofs.running.run.Goals as goal
 
@@ -12,7 +9,7 @@ returns-in-Ok-clause-ends g c =
     plan_runs (g.R.Read.remaining c.args.reader.now) (g.R.Read.remaining c.read_up_to.new.reader) c.in-Ok-Whole.text.items (shown_plan c.in-Ok.plan) c.args.turns c.run_plan.result
     (record { out = g.W.Write.contents c.args.out.now; notes = c.args.notes.now })
     (record { out = g.W.Write.contents c.run_plan.new.out; notes = c.run_plan.new.notes })
-    (subst (λ (i : Input). IfSome (g.R.Read.remaining c.args.reader.now) (λ bytes. IsInput SCRIPT_MAX bytes (g.R.Read.remaining c.read_up_to.new.reader) i)) c.in-Ok-Whole.field-0-is c.in-Ok-Whole.ensures)
+    (rw c.in-Ok-Whole.field-0-is at c.in-Ok-Whole.ensures)
     (subst (λ (text : List ℕ). parse_result text ≡ Ok (shown_plan c.in-Ok.plan)) c.as_slice.ensures.value c.in-Ok.ensures.tells)
     c.run_plan.ensures.ends
 
@@ -21,6 +18,6 @@ returns-in-Err-At-clause-ends g c =
     run_refused (g.R.Read.remaining c.args.reader.now) (g.R.Read.remaining c.read_up_to.new.reader) c.in-Ok-Whole.text.items c.in-Err-At.line c.in-Err-At.kind c.args.turns
     (record { out = g.W.Write.contents c.args.out.now; notes = c.args.notes.now })
     (record { out = g.W.Write.contents c.args.out.now; notes = c.note_kind.new.notes })
-    (subst (λ (i : Input). IfSome (g.R.Read.remaining c.args.reader.now) (λ bytes. IsInput SCRIPT_MAX bytes (g.R.Read.remaining c.read_up_to.new.reader) i)) c.in-Ok-Whole.field-0-is c.in-Ok-Whole.ensures)
+    (rw c.in-Ok-Whole.field-0-is at c.in-Ok-Whole.ensures)
     (subst (λ (text : List ℕ). parse_result text ≡ Err (c.in-Err-At.line, c.in-Err-At.kind)) c.as_slice.ensures.value (rw c.in-Err-At.field-0-is at c.in-Err-At.ensures.tells))
     (Keeps-refl (g.W.Write.contents c.args.out.now), (rw c.in-Err-At.field-0-is at c.note_kind.ensures.puts, c.note_kind.ensures.written))

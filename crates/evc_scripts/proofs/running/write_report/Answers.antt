@@ -1,10 +1,7 @@
 use Rattle.std.proofs.Common.{◌≡◌, ◌∙◌, List, ap, inl, refl, sym, subst}
-use Rattle.ec_text.specs.Puts.{Puts}
-use Rattle.ec_machine.specs.declared.outcome.Outcome.{Outcome}
 use Rattle.ec_script.specs.Outcome.{shown_plan}
 use Rattle.ec_heading.specs.HeadingInvariant.{HasHeaderTree}
 use Rattle.evc_engine.specs.declared.status.Status.{Status}
-use Rattle.evc_scripts.specs.OutcomeNotes.{outcomes_note}
 use Rattle.evc_scripts.specs.Runs.{RunEnds, status_for}
 use Rattle.evc_scripts.proofs.Ends.{have_run, told_ends}
 use Rattle.evc_scripts.proofs.running.write_report.Goals as goal
@@ -24,8 +21,7 @@ returns-then-write_run-clause-ends g c = λ turns returned.
       have_run c.args.plan.now c.args.report.now turns h c.requires.plan.version returned c.invariant-3.ensures.accepted,
       c.if-write_run.ensures.all h.outline h.is h.declares refl,
       (
-        subst (λ (os : List Outcome). Puts c.args.notes.now c.write_run.new.notes (outcomes_note c.args.plan.now.heading os))
-            c.as_slice-outcomes.ensures.value c.if-write_run.ensures.noted,
+        rw c.as_slice-outcomes.ensures.value at c.if-write_run.ensures.noted,
         c.if-write_run.ensures.written,
       ),
     ))

@@ -1,8 +1,5 @@
 use Rattle.std.proofs.Common.{List, refl, subst}
-use Rattle.ec_text.specs.Puts.{Puts}
-use Rattle.ec_machine.specs.declared.outcome.Outcome.{Outcome}
 use Rattle.ec_heading.specs.HeadingInvariant.{HasHeaderTree}
-use Rattle.evc_scripts.specs.OutcomeNotes.{outcomes_note}
 use Rattle.evc_scripts.proofs.Ends.{is_played}
 use Rattle.evc_scripts.proofs.simulating.write_report.Goals as goal
 
@@ -15,8 +12,7 @@ returns-then-write_run-clause-ends g c =
       is_played c.args.plan.now c.args.report.now h c.requires.plan.version c.requires.report,
       c.if-write_run.ensures.all h.outline h.is h.declares refl,
       (
-        subst (λ (os : List Outcome). Puts c.args.notes.now c.write_run.new.notes (outcomes_note c.args.plan.now.heading os))
-            c.as_slice-outcomes.ensures.value c.if-write_run.ensures.noted,
+        rw c.as_slice-outcomes.ensures.value at c.if-write_run.ensures.noted,
         c.if-write_run.ensures.written,
       ),
     )
