@@ -1,5 +1,5 @@
 -- How the command ends, by how the writing ended.
-use Rattle.std.proofs.Common.{inl, inr, ℕ, List, Option, Some, None, Err, refl}
+use Rattle.std.proofs.Common.{◌≡◌, inl, inr, ℕ, List, Option, Some, None, Err, refl}
 use Rattle.std.specs.Io.KnownBytes.{Keeps}
 use Rattle.ec_trace.proofs.shared.ReadTraces.{trace_refuses}
 use Rattle.ec_trace.specs.Outcome as outcomes
@@ -46,40 +46,30 @@ extracted_so bytes left t Refused old new reads ends = absurd ends
 extracted_so bytes left t Memory old new reads ends = absurd ends
 extracted_so bytes left t Stopped old new reads ends = absurd ends
 
+is_refused : (bytes : List ℕ) (left : Option (List ℕ)) (fault : TraceFault) (old new : Outputs)
+    → outcomes.parse_result TRACE_MAX bytes ≡ Err fault → Keeps old.out new.out
+    → Notes old new (fault_note fault) → Extracts bytes left Refused old new
+is_refused bytes left fault old new returned out note = (
+  fault,
+  record { none = trace_refuses bytes fault returned; returned = returned },
+  out,
+  note,
+)
+
 -- the trace was not read
 pub unread_so : (bytes : List ℕ) (left : Option (List ℕ)) (fault : TraceFault) (old new : Outputs)
     → outcomes.Returns TRACE_MAX bytes left (Err fault) → Keeps old.out new.out
     → Notes old new (fault_note fault) → Extracts bytes left (fault_status fault) old new
-unread_so bytes left (faults.BadLine n) old new returned out note = (
-  faults.BadLine n,
-  record { none = trace_refuses bytes (faults.BadLine n) returned; returned = returned },
-  out,
-  note,
-)
-unread_so bytes left (faults.Refused n r) old new returned out note = (
-  faults.Refused n r,
-  record { none = trace_refuses bytes (faults.Refused n r) returned; returned = returned },
-  out,
-  note,
-)
-unread_so bytes left (faults.WrongReply n r) old new returned out note = (
-  faults.WrongReply n r,
-  record { none = trace_refuses bytes (faults.WrongReply n r) returned; returned = returned },
-  out,
-  note,
-)
-unread_so bytes left faults.Unfinished old new returned out note = (
-  faults.Unfinished,
-  record { none = trace_refuses bytes faults.Unfinished returned; returned = returned },
-  out,
-  note,
-)
-unread_so bytes left faults.TooLarge old new returned out note = (
-  faults.TooLarge,
-  record { none = trace_refuses bytes faults.TooLarge returned; returned = returned },
-  out,
-  note,
-)
+unread_so bytes left (faults.BadLine n) old new returned out note =
+    is_refused bytes left (faults.BadLine n) old new returned out note
+unread_so bytes left (faults.Refused n r) old new returned out note =
+    is_refused bytes left (faults.Refused n r) old new returned out note
+unread_so bytes left (faults.WrongReply n r) old new returned out note =
+    is_refused bytes left (faults.WrongReply n r) old new returned out note
+unread_so bytes left faults.Unfinished old new returned out note =
+    is_refused bytes left faults.Unfinished old new returned out note
+unread_so bytes left faults.TooLarge old new returned out note =
+    is_refused bytes left faults.TooLarge old new returned out note
 unread_so bytes left faults.Read old new returned out note = inr (returned, out, note)
 unread_so bytes left faults.Memory old new returned out note = (out, note)
 
