@@ -51,13 +51,7 @@ fn next_look(world: &World, worker: WorkerId, act: &Act, position: usize) -> Opt
             }
             None => None,
         },
-        Act::Advance(_)
-        | Act::Read(_)
-        | Act::Await(_, _)
-        | Act::Ticket(_)
-        | Act::Put(_, _)
-        | Act::Get(_)
-        | Act::Hand(_, _) => Some(look_at(world, act.event(), 0, position)),
+        _ => Some(look_at(world, act.event(), 0, position)),
     }
 }
 
