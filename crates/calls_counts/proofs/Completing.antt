@@ -309,8 +309,11 @@ module _ (slots : List Slot) (next : List ℕ) (pending : List NotedCall) (end :
         f.0,
         elim (either_way (IsFilled now filling (get_or pending i d).noted call) ((filling ≡ now)
             × NoneFree now (get_or pending i d).noted) b f.1) [
-              | inl filled ↦ inl (adds, subst (IsFilled now filling
-                  (get_or pending i d).noted) is filled)
+              | inl filled ↦ inl (
+                adds,
+                subst (IsFilled now filling
+                    (get_or pending i d).noted) is filled,
+              )
               | inr none ↦ inr (none.0, λ e. none.1)
             ],
       ))))

@@ -1,10 +1,9 @@
 -- The whole pass over the events.
 use Rattle.std.proofs.Common.{◌≡◌, ℕ, ◌+◌, ◌<◌, ◌≤◌, ◌⊎◌, inl, inr, List, [], ◌∷◌, ◌++◌, length}
-use Rattle.std.proofs.Common.{refl, ap, sym, ◌∙◌, arith, subst, take, drop, get_or, reverse, Option}
+use Rattle.std.proofs.Common.{refl, ap, sym, ◌∙◌, arith, subst, take, get_or, reverse, Option}
 use Rattle.std.proofs.Common.{Some, None, append_assoc, append-nil}
 use Rattle.std.specs.List.Sorted.{IsPermutation}
 use Rattle.std.proofs.lemmas.Bool.{cases_lt, cases_Bool, both_ways}
-use Rattle.std.proofs.lemmas.List.{take_more, take_all, reverse-append, take-append-drop}
 use Rattle.std.proofs.lemmas.List.{length-reverse, length-take-le}
 use Rattle.std.proofs.lemmas.List.Sums.{count_by-le-length}
 use Rattle.std.proofs.lemmas.List.Sorted.{IsPermutation-refl, IsPermutation-trans}

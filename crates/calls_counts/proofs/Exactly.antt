@@ -27,8 +27,7 @@ use Rattle.calls_counts.specs.Faults.{is_advance, least, most, Contradicts, made
 use Rattle.calls_counts.specs.Laws.{EveryHistoryIsDecided}
 use Rattle.calls_core.specs.Lists.{Each}
 use Rattle.calls_counts.specs.ScanStates.{taken_calls, placed_calls}
-use Rattle.calls_counts.specs.Scanning.{slot_of_call, IsNew, IsFewer, IsObserved, IsRefused}
-use Rattle.calls_counts.specs.Scanning.{Holds}
+use Rattle.calls_counts.specs.Scanning.{slot_of_call, IsNew, IsFewer, IsObserved, IsRefused, Holds}
 use Rattle.calls_core.proofs.Counting.{one}
 use Rattle.calls_core.specs.declared.pending.NotedCall.{NotedCall}
 use Rattle.calls_core.specs.Pending.{noted_calls, IsNotedOf}

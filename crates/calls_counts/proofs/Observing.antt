@@ -1,8 +1,7 @@
 -- What a read or an await says about the count.
 use Rattle.std.proofs.Common.{max, ◌≡◌, ℕ, zero, suc, ◌+◌, ◌<◌, ◌≤◌, inl, inr, false, List, [], ◌∷◌}
-use Rattle.std.proofs.Common.{◌++◌, length, Some, None, refl, ap, sym, ◌∙◌, arith, subst, slice_get}
-use Rattle.std.proofs.Common.{get_or, append_assoc, append-nil, length-append, ◌↔◌, ◌-◌, nat_lt}
-use Rattle.std.proofs.Common.{IsTrue, count_by, nat_le}
+use Rattle.std.proofs.Common.{length, Some, refl, ap, sym, arith, subst, slice_get, get_or}
+use Rattle.std.proofs.Common.{append-nil, ◌↔◌, ◌-◌, nat_lt, IsTrue, count_by, nat_le}
 use Rattle.std.specs.List.{Contains}
 use Rattle.std.proofs.lemmas.List.{get_or-map, length-map}
 use Rattle.std.proofs.lemmas.Bool.{ltb-true, lt-ltb}
@@ -12,7 +11,6 @@ use Rattle.calls_core.specs.declared.history.Op.TheVariants.{Advance, Read, Awai
 use Rattle.calls_core.specs.declared.history.Reply.{Reply}
 use Rattle.calls_core.specs.declared.history.Reply.TheVariants.{Done, Number, Timeout}
 use Rattle.calls_core.specs.declared.history.Call.{Call}
-use Rattle.calls_counts.specs.declared.fault.Fault.{Fault}
 use Rattle.calls_counts.specs.declared.fault.Fault.TheVariants.{Many}
 use Rattle.calls_counts.specs.declared.state.Slot.{Slot}
 use Rattle.calls_counts.specs.declared.state.PlacedRead.{PlacedRead}
@@ -20,9 +18,7 @@ use Rattle.calls_core.specs.Histories.{Suits}
 use Rattle.calls_counts.specs.CountRuns.{CountGives}
 use Rattle.calls_counts.specs.Faults.{is_advance, least, most, Contradicts, made_between}
 use Rattle.calls_counts.specs.ScanStates.{placed_calls, taken_calls}
-use Rattle.calls_counts.specs.Scanning.{IsNew, IsRaised, IsFewer, IsTooLittle, IsReckoned}
-use Rattle.calls_counts.specs.Scanning.{IsRefused, AreInvocations}
-use Rattle.calls_core.proofs.Lists.{each_append}
+use Rattle.calls_counts.specs.Scanning.{IsRaised, IsFewer, IsTooLittle, IsReckoned, AreInvocations}
 
 -- NEW SLOTS
 

@@ -1,25 +1,21 @@
 -- Searches for pending calls and free slots, and counts of invocations.
 use Rattle.std.proofs.Common.{◌≡◌, ℕ, zero, suc, ◌+◌, ◌<◌, ◌≤◌, Bool, true, false, not, ◌&&◌}
-use Rattle.std.proofs.Common.{nat_le, nat_lt, ◌==◌, List, [], ◌∷◌, ◌++◌, length, Option, Some, None}
+use Rattle.std.proofs.Common.{nat_le, nat_lt, List, [], ◌∷◌, ◌++◌, length, Option, Some, None}
 use Rattle.std.proofs.Common.{refl, ap, sym, ◌∙◌, arith, cond, subst, slice_get, get_or, take, drop}
 use Rattle.std.proofs.Common.{set, count_by, drop-cons}
 use Rattle.std.specs.List.{filter_map, cons_option}
 use Rattle.std.specs.Option.{is_some}
-use Rattle.std.proofs.lemmas.Bool.{eq-eqb, ne_eqb, and_left, and_right, le-leb, lt-leb, ltb-true}
-use Rattle.std.proofs.lemmas.Bool.{ltb-false}
+use Rattle.std.proofs.lemmas.Bool.{and_left, and_right, le-leb, lt-leb, ltb-true, ltb-false}
 use Rattle.std.proofs.lemmas.List.{take-append-drop, set_split, length-take-le}
 use Rattle.std.proofs.lemmas.Option.{slice_get_within, slice_get-get_or, get_or_from_slice_get}
 use Rattle.calls_core.specs.declared.history.Call.{Call}
 use Rattle.calls_counts.specs.declared.state.Slot.{Slot}
-use Rattle.calls_core.specs.Histories.{pending_of, without}
 use Rattle.calls_counts.specs.Faults.{is_advance, lies_between, made_between}
 use Rattle.calls_counts.specs.ScanStates.{taken_calls}
 use Rattle.calls_counts.specs.Scanning.{FreeBelow, NoneFree, IsFirstFree, slot_of_call}
 use Rattle.calls_counts.specs.Scanning.{IsFilled, invoked_before, AreInvocations}
 use Rattle.calls_core.proofs.Counting.{one, one_yes, one_no, count_cons}
 use Rattle.calls_core.proofs.Lists.{each_from_get}
-use Rattle.calls_core.specs.declared.pending.NotedCall.{NotedCall}
-use Rattle.calls_core.specs.Pending.{noted_calls, IsNotedOf}
 
 -- FREE SLOTS
 

@@ -1,11 +1,9 @@
 -- The state after one more event.
-use Rattle.std.proofs.Common.{◌≡◌, ℕ, zero, suc, ◌+◌, ◌<◌, ◌≤◌, inl, inr, Bool, true, false, ◌&&◌}
-use Rattle.std.proofs.Common.{nat_le, List, [], ◌∷◌, ◌++◌, length, Option, Some, None, refl, ap}
-use Rattle.std.proofs.Common.{sym, ◌∙◌, arith, subst, take, drop, get_or, Result, Ok, Err, IfOk}
-use Rattle.std.proofs.Common.{MatchOption}
+use Rattle.std.proofs.Common.{◌≡◌, ℕ, zero, suc, ◌+◌, ◌<◌, ◌≤◌, inl, inr, true, false, ◌&&◌, nat_le}
+use Rattle.std.proofs.Common.{List, [], ◌∷◌, ◌++◌, length, Option, Some, None, refl, ap, sym, ◌∙◌}
+use Rattle.std.proofs.Common.{arith, subst, take, drop, get_or, MatchOption}
 use Rattle.std.specs.List.{All, Contains, remove, cons_option}
 use Rattle.std.specs.Option.{IfSome}
-use Rattle.std.specs.declared.alloc.AllocError.{AllocError}
 use Rattle.std.proofs.lemmas.Bool.{and_left}
 use Rattle.std.proofs.lemmas.List.{map-append, length-map}
 use Rattle.std.proofs.lemmas.Option.{get_or_from_slice_get}
@@ -35,9 +33,8 @@ use Rattle.calls_counts.specs.Faults.{FromSince, FromFew, FromMany, FromBelow, S
 use Rattle.calls_core.specs.Lists.{Each}
 use Rattle.calls_counts.specs.ScanStates.{taken_calls, placed_calls, moments, Fits}
 use Rattle.calls_counts.specs.ScanStates.{IsSlotAt, IsNotedCall, IsReadAt, IsState}
-use Rattle.calls_counts.specs.Scanning.{NoneFree, slot_of_call, IsFilled, IsTooLittle}
-use Rattle.calls_counts.specs.Scanning.{IsObserved, IsReckoned, IsWrong, IsRefused, Holds, Skips}
-use Rattle.calls_counts.specs.Scanning.{ScanKeeps}
+use Rattle.calls_counts.specs.Scanning.{NoneFree, slot_of_call, IsFilled, IsTooLittle, IsObserved}
+use Rattle.calls_counts.specs.Scanning.{IsReckoned, IsWrong, IsRefused, Holds, Skips, ScanKeeps}
 use Rattle.calls_core.proofs.Counting.{one, count_cons, count_append, count_moved, count_less}
 use Rattle.calls_core.proofs.Counting.{count_none}
 use Rattle.calls_core.proofs.Lists.{each_weaker, each_map, each_from_none, all_from_each}

@@ -1,8 +1,7 @@
 -- The steps of a monitor, which has the number of the slots and the indices of the free ones.
 use Rattle.std.proofs.Common.{Bool, true, false, ◌&&◌, cond, ◌≡◌, ℕ, zero, suc, ◌+◌, ◌-◌, ◌<◌, ◌≤◌}
 use Rattle.std.proofs.Common.{inl, List, [], ◌∷◌, ◌++◌, length, Option, Some, None, refl, ap, sym}
-use Rattle.std.proofs.Common.{◌∙◌, arith, subst, get_or, Result, Ok, Err, append_assoc, append-nil}
-use Rattle.std.proofs.Common.{length-append}
+use Rattle.std.proofs.Common.{◌∙◌, arith, subst, get_or, Result, Ok, Err, append-nil, length-append}
 use Rattle.std.specs.List.{remove, range_with_len as places}
 use Rattle.std.proofs.lemmas.List.Sums.{count_by-le-length}
 use Rattle.calls_core.specs.declared.history.Kind.TheVariants.{Eventcount}

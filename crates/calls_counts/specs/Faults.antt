@@ -1,7 +1,6 @@
 -- The faults of an eventcount: what each says, by counting.
 use Rattle.std.specs.Prelude.{◌≡◌, ◌⊎◌, ℕ, ◌+◌, ◌-◌, ◌<◌, ◌≤◌, Option, Some, None, Bool, true}
-use Rattle.std.specs.Prelude.{false, ◌&&◌}
-use Rattle.std.specs.Prelude.{nat_le, nat_lt, count_by, List}
+use Rattle.std.specs.Prelude.{false, ◌&&◌, nat_le, nat_lt, count_by, List}
 use Rattle.std.specs.List.{Contains}
 use Rattle.calls_core.specs.declared.history.Op.{Op}
 use Rattle.calls_core.specs.declared.history.Op.TheVariants.{Advance, Read, Await}

@@ -6,7 +6,6 @@ use Rattle.std.specs.List.{Contains, filter_map}
 use Rattle.std.specs.List.Sorted.{IsPermutation}
 use Rattle.calls_core.specs.declared.history.Op.TheVariants.{Advance}
 use Rattle.calls_core.specs.declared.history.Reply.TheVariants.{Done}
-use Rattle.calls_core.specs.declared.history.PendingCall.{PendingCall}
 use Rattle.calls_core.specs.declared.history.Call.{Call}
 use Rattle.calls_counts.specs.declared.state.Slot.{Slot}
 use Rattle.calls_counts.specs.declared.state.PlacedRead.{PlacedRead}

@@ -2,7 +2,7 @@
 use Rattle.std.specs.Prelude.{◌≡◌, ◌⊎◌, ℕ, ◌+◌, ◌<◌, ◌≤◌, true, count_by, List, [], ◌∷◌, ◌++◌}
 use Rattle.std.specs.Prelude.{length, Option, Some, None, slice_get, slice_index, MatchOption, ◌&&◌}
 use Rattle.std.specs.Prelude.{nat_le, nat_lt, if◌then◌else◌}
-use Rattle.std.specs.List.{Contains, remove}
+use Rattle.std.specs.List.{Contains}
 use Rattle.calls_core.specs.declared.history.Kind.TheVariants.{Eventcount}
 use Rattle.calls_core.specs.declared.history.Event.{Event}
 use Rattle.calls_core.specs.declared.history.Call.{Call}
@@ -11,8 +11,7 @@ use Rattle.calls_counts.specs.declared.state.PlacedRead.{PlacedRead}
 use Rattle.calls_counts.specs.declared.fault.Fault.{Fault}
 use Rattle.calls_counts.specs.declared.fault.Fault.TheVariants.{Below, Few, Many, Since}
 use Rattle.calls_counts.specs.declared.scan.Scan.{Scan}
-use Rattle.calls_core.specs.Histories.{clock, pending_of, without, pending_calls, completed_calls}
-use Rattle.calls_core.specs.Histories.{IsHistoryOf}
+use Rattle.calls_core.specs.Histories.{clock, pending_calls, completed_calls, IsHistoryOf}
 use Rattle.calls_counts.specs.CountRuns.{CountGives}
 use Rattle.calls_core.specs.Linearizations.{answered_calls}
 use Rattle.calls_core.specs.Calls.{Earlier}

@@ -1,6 +1,6 @@
 -- How a monitor's fields represent the events so far, and what its parts do. Of this, public
 -- contracts use only `Watching`.
-use Rattle.std.specs.Prelude.{◌≡◌, ℕ, zero, suc, ◌+◌, ◌-◌, ◌<◌, ◌≤◌, max, List, [], ◌∷◌, ◌++◌}
+use Rattle.std.specs.Prelude.{◌≡◌, ℕ, ◌+◌, ◌-◌, ◌<◌, ◌≤◌, max, List, [], ◌∷◌, ◌++◌}
 use Rattle.std.specs.Prelude.{length, Option, Some, None, get_or, Result, Ok, Err}
 use Rattle.std.specs.List.{range_with_len as places}
 use Rattle.calls_core.specs.declared.history.TheConstants.{WORKERS}

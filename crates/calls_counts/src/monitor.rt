@@ -10,7 +10,9 @@ ghost use Rattle.calls_counts.specs.Watching.{AllBelow, IsFirstPlace, IsJudged};
 
 use crate::find::{contradicts, is_advance, least, most};
 use arrayvec::ArrayVec;
-use calls_core::{Action, Call, Event, NotedCall, Op, PendingCall, Reply, WORKERS, find_noted, push_range};
+use calls_core::{
+    Action, Call, Event, NotedCall, Op, PendingCall, Reply, WORKERS, find_noted, push_range,
+};
 
 /// The state after the events so far, with at most `WORKERS` pending calls.
 #[derive(Drop)]

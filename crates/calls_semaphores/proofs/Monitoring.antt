@@ -19,8 +19,7 @@ use Rattle.calls_semaphores.specs.Keeping.{is_v, IsOpened, AreAdded, TakenAs}
 use Rattle.calls_semaphores.proofs.Counts.{pending_invoke, pending_respond}
 use Rattle.calls_semaphores.proofs.Deciding.{HasKept, no_pending, kept_start, kept_of_order}
 use Rattle.calls_semaphores.proofs.Deciding.{has_order, has_invoked, has_v, has_other}
-use Rattle.calls_semaphores.proofs.Scanning.{left_start, left_invoked}
-use Rattle.calls_semaphores.proofs.Scanning.{left_now, some_left, refused}
+use Rattle.calls_semaphores.proofs.Scanning.{left_start, left_invoked, left_now, some_left, refused}
 
 pub monitor_start : (units : Vec ℕ Global) (m : Monitor) → IsOpened units.items m.bank
     → m.pending.items ≡ [] → Represents units [] m

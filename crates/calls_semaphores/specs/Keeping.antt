@@ -6,8 +6,7 @@ use Rattle.std.specs.declared.alloc.Global.{Global}
 use Rattle.std.specs.List.Sorted.{IsPermutation}
 use Rattle.calls_core.specs.declared.history.Kind.TheVariants.{Semaphores}
 use Rattle.calls_core.specs.declared.history.Op.{Op}
-use Rattle.calls_core.specs.declared.history.Op.TheVariants.{Advance, Read, Await, Ticket, P, V}
-use Rattle.calls_core.specs.declared.history.Op.TheVariants.{PBoth, Put, Get}
+use Rattle.calls_core.specs.declared.history.Op.TheVariants.{V, PBoth}
 use Rattle.calls_core.specs.declared.history.Reply.{Reply}
 use Rattle.calls_core.specs.declared.history.Reply.TheVariants.{Done}
 use Rattle.calls_core.specs.declared.history.Event.{Event}
@@ -77,15 +76,8 @@ TakenAs old new op r (Some i) = (took i op r ≡ true) × (units_left old i ≡ 
 
 -- whether this adds a unit to some semaphore
 abbrev pub is_v : Op → Bool
-is_v Advance = false
-is_v Read = false
-is_v (Await v) = false
-is_v Ticket = false
-is_v (P j) = false
 is_v (V j) = true
-is_v (PBoth j k) = false
-is_v (Put v) = false
-is_v Get = false
+is_v _ = false
 
 -- a pending v takes effect, and another pending call does not
 abbrev pub answer : PendingCall → Option Reply

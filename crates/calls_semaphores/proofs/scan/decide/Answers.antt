@@ -10,8 +10,7 @@ use Rattle.calls_core.specs.Histories.{clock}
 use Rattle.calls_core.proofs.Beginnings.{past_next, history_next}
 use Rattle.calls_semaphores.specs.Keeping.{Holds, IsStep, Steps}
 use Rattle.calls_semaphores.proofs.Scanning.{scan_start}
-use Rattle.calls_semaphores.proofs.Finding.{next_clock, held_whole}
-use Rattle.calls_semaphores.proofs.Finding.{first_fault}
+use Rattle.calls_semaphores.proofs.Finding.{next_clock, held_whole, first_fault}
 use Rattle.calls_semaphores.proofs.scan.decide.Goals as goal
 
 no_event : Event

@@ -1,6 +1,5 @@
 -- An invocation.
-use Rattle.std.proofs.Common.{◌≡◌, ◌+◌, ◌++◌, ◌∷◌, [], true, false, refl, ap, sym, ◌∙◌}
-use Rattle.std.proofs.Common.{arith}
+use Rattle.std.proofs.Common.{◌≡◌, ◌+◌, ◌++◌, ◌∷◌, [], true, false, refl, ap, sym, ◌∙◌, arith}
 use Rattle.calls_core.specs.declared.history.PendingCall.{PendingCall}
 use Rattle.calls_counts.specs.Faults.{is_advance}
 use Rattle.calls_core.proofs.Counting.{one_yes, one_no}
