@@ -17,7 +17,7 @@ use Rattle.ec_core.specs.Rounds.{event_or, component_count, sum_read, round_sum,
 use Rattle.ec_core.specs.Acceptance.{answer_of, reply_of, names_unknown_object, IsAccepted}
 use Rattle.ec_core.specs.Progress.{Progress}
 use Rattle.ec_core.specs.Standing.{call_progress, progress_of}
-use Rattle.ec_core.specs.FallenShort.{HasJustFallenShort, IndexZeroMeansFallenShort, IndexZeroIsAnAwait}
+use Rattle.ec_core.specs.Laws.{HasJustFallenShort, IndexZeroMeansFallenShort, IndexZeroIsAnAwait}
 use Rattle.ec_core.proofs.shared.Answering.{allowed, call_reads, mod_next, width_some, IsReading, IsReadingCall}
 use Rattle.ec_core.proofs.CallsCut.{calls_are_cut, moments_kept, moments_more, moments_none, own_is}
 use Rattle.ec_core.proofs.shared.Following.{reply_read}

@@ -5,4 +5,3 @@ pub mod ReplyKinds
 pub mod CallsCut
 pub mod FallenShort
 pub mod Keeping
-pub mod Components

@@ -4,14 +4,13 @@ use Rattle.std.specs.Option.{option_and_then}
 use Rattle.std.proofs.Math.Nat.{zero-add}
 use Rattle.std.proofs.lemmas.Bool.{eqb-true, eqb-false}
 use Rattle.ec_count.specs.Tables.{Tables}
-use Rattle.ec_count.specs.Members.{index_of}
+use Rattle.ec_count.specs.Members.{index_of, replace_at}
 use Rattle.ec_core.specs.declared.act.Act.{Act}
 use Rattle.ec_core.specs.declared.act.Act.TheVariants.{Advance, Read, Await, Go, Ticket, Put, Get, Hand}
 use Rattle.ec_core.specs.declared.act.Entry.{Entry}
-use Rattle.ec_core.specs.Counts.{past_at, total, component_total, issued, cell_value, is_advance, is_ticket, is_place, put_in, hand_of, replace_at, signallers_after, signallers_at, signaller_at, component_at}
-use Rattle.ec_core.specs.InOrder.{handed_at, IsLastHand, IsUnhanded}
-use Rattle.ec_core.specs.Laws.{HandsChangeNoNumber, SignallersAreTheLastReceivers}
-use Rattle.ec_core.proofs.shared.Answering.{place_within}
+use Rattle.ec_core.specs.Counts.{past_at, total, component_total, issued, cell_value, is_advance, is_ticket, is_place, put_in, hand_of, signallers_after, signallers_at, signaller_at, component_at}
+use Rattle.ec_core.specs.Laws.{HandsChangeNoNumber, SignallersAreTheLastReceivers, handed_at, IsLastHand, IsUnhanded}
+use Rattle.ec_count.proofs.Membership.{place_within}
 use Rattle.ec_core.proofs.shared.Moments.{past_next, past_end}
 use Rattle.ec_core.proofs.shared.Places.{get_set}
 use Rattle.ec_core.proofs.shared.Stepping.{comp_quiet, issued_quiet}

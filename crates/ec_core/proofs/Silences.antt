@@ -8,20 +8,21 @@ use Rattle.std.proofs.lemmas.List.{length-map, length-reverse, reverse-append, r
 use Rattle.std.proofs.lemmas.List.Elements.{filter-append}
 use Rattle.std.specs.List.{list_any, position_from}
 use Rattle.ec_count.specs.Tables.{Tables, may_take, may_write, is_silent}
-use Rattle.ec_count.specs.Members.{is_member, index_of}
+use Rattle.ec_count.specs.Members.{is_member, index_of, replace_at}
 use Rattle.ec_count.proofs.shared.Quiet.{silent_has_none, silent_from_none}
 use Rattle.ec_core.specs.declared.act.Act.{Act}
 use Rattle.ec_core.specs.declared.act.Act.TheVariants.{Advance, Read, Await, Go, Ticket, Put, Get, Hand}
 use Rattle.ec_core.specs.declared.act.Reply.{Reply}
 use Rattle.ec_core.specs.declared.act.Reply.TheVariants.{Number, Pending}
 use Rattle.ec_core.specs.declared.act.Entry.{Entry}
-use Rattle.ec_core.specs.Counts.{past_at, component_total, issued, cell_value, is_advance, is_ticket, is_place, put_in, replace_at, signallers_after, signallers_at, component_at}
+use Rattle.ec_core.specs.Counts.{past_at, component_total, issued, cell_value, is_advance, is_ticket, is_place, put_in, signallers_after, signallers_at, component_at}
 use Rattle.ec_core.specs.Calls.{CallSoFar, under_way, call_with_act, is_pending}
 use Rattle.ec_core.specs.Rounds.{event_or, component_count, sum_read, next_component, round_reply, read_reply, go_reply, IsPastOf, EachIsPastOf}
 use Rattle.ec_core.specs.Acceptance.{reply_of, answer_of, refusal_of, refusal_in, refused_or, has_right, is_at_limit, signals_already, IsAccepted}
 use Rattle.ec_core.specs.Silence.{IsSilent, hands_to, without}
 use Rattle.ec_core.specs.Laws.{OthersStand}
-use Rattle.ec_core.proofs.shared.Answering.{allowed, place_within}
+use Rattle.ec_count.proofs.Membership.{place_within}
+use Rattle.ec_core.proofs.shared.Answering.{allowed}
 use Rattle.ec_core.proofs.shared.Moments.{accepted_until, answered_after, past_next, past_end, past_through, split_at}
 use Rattle.ec_core.proofs.shared.Totals.{some_of}
 use Rattle.ec_core.proofs.shared.Pasts.{past_itself, past_of_past, past_later, call_before, IsCallBefore}

@@ -1,9 +1,9 @@
 -- The counts of a history. The history so far is given reversed, as past: the entries before a
 -- moment, the newest first, so that each entry is followed by those before it. (Reed and Kanodia:
 -- the value of an eventcount is the number of its advances.)
-use Rattle.std.specs.Prelude.{ℕ, ◌+◌, Bool, false, ◌==◌, ◌&&◌, List, [], ◌∷◌, zero, suc, reverse, take, Option, Some, None, if◌then◌else◌, unwrap_or, slice_get, slice_set}
+use Rattle.std.specs.Prelude.{ℕ, ◌+◌, Bool, false, ◌==◌, ◌&&◌, List, [], ◌∷◌, zero, suc, reverse, take, Option, Some, None, if◌then◌else◌, unwrap_or, slice_get}
 use Rattle.ec_count.specs.Tables.{Tables, signallers}
-use Rattle.ec_count.specs.Members.{index_of}
+use Rattle.ec_count.specs.Members.{index_of, replace_at}
 use Rattle.ec_core.specs.declared.act.Act.{Act}
 use Rattle.ec_core.specs.declared.act.Act.TheVariants.{Advance, Read, Await, Go, Ticket, Put, Get, Hand}
 use Rattle.ec_core.specs.declared.act.Entry.{Entry}
@@ -29,11 +29,6 @@ total e (x ∷ past) = (if is_advance e x.act then 1 else 0) + total e past
 abbrev pub hand_of : ℕ → Act → Option ℕ
 hand_of e (Hand f b) = if f == e then Some b else None
 hand_of e _ = None
-
--- the list with b at a position
-abbrev pub replace_at : Option ℕ → ℕ → List ℕ → List ℕ
-replace_at None b ws = ws
-replace_at (Some c) b ws = slice_set ws c b
 
 -- the signallers of e after an act of w, if they were ws before it: if w is one of them, a hand of
 -- e to b replaces it by b

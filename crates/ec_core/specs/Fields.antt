@@ -1,7 +1,7 @@
 -- What a step does to the fields of a world: functions of these fields, not of a history.
 use Rattle.std.specs.Prelude.{◌≡◌, ℕ, ◌+◌, ◌<◌, Bool, false, ◌==◌, nat_le, List, [], ◌∷◌, ◌++◌, reverse, Ok, Option, Some, None, is_some, if◌then◌else◌, slice_get, slice_set, slice_index, Result, unwrap_or}
 use Rattle.std.specs.Option.{option_map, option_map_or}
-use Rattle.ec_count.specs.Members.{index_of, is_member}
+use Rattle.ec_count.specs.Members.{index_of, replace_unless_member}
 use Rattle.ec_count.specs.CountModel.{CountModel, count_up}
 use Rattle.ec_core.specs.declared.act.Act.{Act}
 use Rattle.ec_core.specs.declared.act.Act.TheVariants.{Advance, Read, Await, Go, Ticket, Put, Get, Hand}
@@ -12,7 +12,6 @@ use Rattle.ec_core.specs.declared.act.Refusal.{Refusal}
 use Rattle.ec_core.specs.declared.effect.Effect.{Effect}
 use Rattle.ec_core.specs.declared.effect.Effect.TheVariants as effects
 use Rattle.ec_core.specs.Progress.{Progress, RoundSoFar}
-use Rattle.ec_core.specs.Counts.{replace_at}
 use Rattle.ec_core.specs.Rounds.{event_or, component_count, round_reply}
 use Rattle.ec_core.specs.declared.act.TheConstants.{VALUE_MAX}
 use Rattle.ec_core.specs.Acceptance.{refused_or, refusal_in, has_right, answer_of}
@@ -26,13 +25,9 @@ abbrev pub is_full : Option CountModel → Bool
 is_full None = false
 is_full (Some n) = n.value == n.limit
 
--- the signallers of e now
-abbrev pub signallers_in : List (List ℕ) → ℕ → List ℕ
-signallers_in signal e = unwrap_or (slice_get signal e) []
-
 -- the component of e that w signals now
 abbrev pub component_in : State → ℕ → ℕ → Option ℕ
-component_in s e w = index_of w (signallers_in s.signal e)
+component_in s e w = index_of w (unwrap_or (slice_get s.signal e) [])
 
 -- whether w has the right that the act needs; the right to signal is read in the table of those who
 -- signal now
@@ -45,10 +40,6 @@ right_in s past w act = has_right s.setup past w act
 abbrev pub already_in : State → Act → Bool
 already_in s (Hand e b) = is_some (component_in s e b)
 already_in s _ = false
-
--- the list with b at a position, unless b is in it
-abbrev pub replace_unless_member : Option ℕ → ℕ → List ℕ → List ℕ
-replace_unless_member c b ws = if is_member b ws then ws else replace_at c b ws
 
 abbrev pub stored_progress : State → ℕ → Option Progress
 stored_progress s w = unwrap_or (slice_get s.calls w) None

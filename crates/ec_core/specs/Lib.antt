@@ -6,18 +6,14 @@ pub mod Acceptance
 pub mod Silence
 pub mod Progress
 pub mod Standing
-pub mod Signallers
 pub mod Fields
 pub mod RunModel
-pub mod Segments
 pub mod Packed
 pub mod Faults
 pub mod Refusals
 pub mod Values
-pub mod InOrder
 pub mod CallsInOrder
 pub mod Laws
-pub mod FollowingLaws
 pub mod Following
 pub mod CallLists
 pub mod Procedures
@@ -25,4 +21,3 @@ pub mod JoinedLists
 pub mod PendingCalls
 pub mod Scanning
 pub mod Audits
-pub mod FallenShort

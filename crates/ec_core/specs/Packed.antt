@@ -1,6 +1,6 @@
 -- A packed entry: the tag of its act and the tag of its reply. Its numbers are among the words of
 -- many entries, one entry after another.
-use Rattle.std.specs.Prelude.{◌≡◌, ℕ, ◌+◌, ◌*◌, ◌/◌, ◌%◌, ◌^◌, ◌<◌, ◌≤◌, List, [], ◌∷◌, ◌++◌, drop, take, length, nat_lt, slice_index, if◌then◌else◌, Option, Some, None}
+use Rattle.std.specs.Prelude.{◌≡◌, ℕ, ◌+◌, ◌*◌, ◌/◌, ◌%◌, ◌^◌, ◌<◌, ◌≤◌, List, [], ◌∷◌, ◌++◌, drop, take, All, length, nat_lt, slice_index, if◌then◌else◌, Option, Some, None}
 use Rattle.ec_core.specs.declared.act.Act.{Act}
 use Rattle.ec_core.specs.declared.act.Act.TheVariants as acts
 use Rattle.ec_core.specs.declared.act.Reply.{Reply}
@@ -11,6 +11,7 @@ use Rattle.ec_core.specs.declared.packed.ActTag.TheVariants as verbs
 use Rattle.ec_core.specs.declared.packed.ReplyTag.{ReplyTag}
 use Rattle.ec_core.specs.declared.packed.ReplyTag.TheVariants as answers
 use Rattle.ec_core.specs.declared.packed.PackedEntry.{PackedEntry}
+use Rattle.std.specs.List.{flat_map}
 
 -- the words of a number: one if it is below 2 ^ 32, else two, the low one first
 abbrev pub words_of_number : ℕ → List ℕ
@@ -142,3 +143,15 @@ pub record IsSegment (words : List ℕ) (stored : List PackedEntry) (starts : Li
   pub begun : AreStarts stored starts
   pub room : 4096 ≤ capacity
   pub spare : length words + 64 * length starts ≤ words_capacity + 4 * length stored
+
+-- A LIST IN SEGMENTS: full ones of 4096 elements each, and the last, perhaps shorter
+
+-- the elements of the full segments, one after another, then those of the last
+abbrev pub concat_segments : {X : Type 0} → List (List X) → List X → List X
+concat_segments full last = flat_map (λ xs. xs) full ++ last
+
+-- each full segment is full
+pub record IsSegmented {X : Type 0} (full : List (List X)) (last : List X) : Type 0 where
+  pub whole : All (λ xs. length xs ≡ 4096) full
+  pub few : length full ≤ 2 ^ 51
+  pub begun : length last ≤ 4096

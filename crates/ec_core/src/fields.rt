@@ -1,5 +1,5 @@
 //! What a step reads of a setup and of the arrays of a world, and how it changes them.
-ghost use Rattle.std.specs.Prelude.{◌≡◌, ℕ, false, ◌<◌, ◌≤◌, length, slice_get, Some};
+ghost use Rattle.std.specs.Prelude.{◌≡◌, ℕ, false, ◌<◌, ◌≤◌, slice_get, Some};
 ghost use Rattle.ec_count.specs.CountModel.{count_up};
 ghost use Rattle.ec_count.specs.Tables.{signallers};
 ghost use Rattle.ec_core.specs.Acceptance.{is_too_large};
@@ -8,23 +8,22 @@ ghost use Rattle.ec_core.specs.Counts.{sum_to};
 ghost use Rattle.ec_core.specs.Standing.{count_at};
 ghost use Rattle.ec_core.specs.Fields.{count_value, map_at};
 
-use crate::signallers::Signallers;
 use crate::{Act, VALUE_MAX};
-use ec_count::{Count, EventId, Setup};
+use ec_count::{Count, EventId, Members, Setup};
 
 /// Returns the declared signallers of an eventcount.
-fn signallers_of_event(setup: &Setup, event: EventId) -> Signallers
+fn signallers_of_event(setup: &Setup, event: EventId) -> Members
     ensures { result ≡ signallers setup.now event }
 {
     setup.invariant();
-    Signallers::new(setup.signallers(event))
+    Members::new(setup.signallers(event))
 }
 
 /// Returns the declared signallers of each eventcount.
-pub(crate) fn declared_signallers(setup: &Setup) -> [Signallers; 32]
+pub(crate) fn declared_signallers(setup: &Setup) -> [Members; 32]
     ensures { (e : ℕ) → e < 32 → slice_get result e ≡ Some (signallers setup.now e) }
 {
-    let mut signal: [Signallers; 32] = Default::default();
+    let mut signal: [Members; 32] = Default::default();
     for e in 0..32 {
         if let Some(event) = EventId::new(e) {
             signal[e] = signallers_of_event(setup, event);

@@ -1,6 +1,6 @@
 //! What conformance and procedures mean, in order of time: each function states a theorem and does
 //! nothing.
-ghost use Rattle.ec_core.specs.FollowingLaws.{FollowingHoldsOfPrefixes, FollowsOrBreaks, BreaksAreFirst, FollowingMeansJoinedLists, FollowingMeansUnbrokenLists, AnsweredCallsAreWritten};
+ghost use Rattle.ec_core.specs.Laws.{FollowingHoldsOfPrefixes, FollowsOrBreaks, BreaksAreFirst, FollowingMeansJoinedLists, FollowingMeansUnbrokenLists, AnsweredCallsAreWritten};
 
 /// States that each prefix of a history that conforms does so.
 pub fn following_holds_of_prefixes()

@@ -1,8 +1,7 @@
 //! What the definitions mean, in order of time: each function states a theorem and does nothing.
 ghost use Rattle.std.specs.Prelude.{◌≡◌};
 ghost use Rattle.ec_core.specs.declared.act.TheConstants.{VALUE_MAX};
-ghost use Rattle.ec_core.specs.FallenShort.{IndexZeroIsAnAwait, IndexZeroMeansFallenShort};
-ghost use Rattle.ec_core.specs.Laws.{TotalsCountAdvances, ComponentsCountAdvances, IssuedCountsTickets, CellsHoldTheLastPut, CallsUnderWayAreCutInOrder, CallsUnderWayRead, RoundsAddTheirComponents, ComponentsAddUp, TotalsRiseByOne, CountsKeepTheLimit, RoundsLieBetween, RoundsOfCallsLieBetween, PrefixesAreAccepted, AcceptedMeansAnswered, NumbersAreSmall, RepliesFitTheirActs, SignallersAreDifferent, FixedEventsKeepTheirSignallers, SignallersAreTheLastReceivers, HandsChangeNoNumber, OthersStand};
+ghost use Rattle.ec_core.specs.Laws.{TotalsCountAdvances, ComponentsCountAdvances, IssuedCountsTickets, CellsHoldTheLastPut, CallsUnderWayAreCutInOrder, CallsUnderWayRead, RoundsAddTheirComponents, ComponentsAddUp, TotalsRiseByOne, CountsKeepTheLimit, RoundsLieBetween, RoundsOfCallsLieBetween, PrefixesAreAccepted, AcceptedMeansAnswered, NumbersAreSmall, RepliesFitTheirActs, SignallersAreDifferent, FixedEventsKeepTheirSignallers, SignallersAreTheLastReceivers, HandsChangeNoNumber, OthersStand, IndexZeroIsAnAwait, IndexZeroMeansFallenShort};
 
 /// States that the total of an eventcount at a moment is the number of its advances before it.
 ///

@@ -1,5 +1,5 @@
 //! The state of a kernel.
-ghost use Rattle.std.specs.Prelude.{reverse, true, false, if◌then◌else◌, nat_lt, nat_le, ◌≡◌, ◌+◌, ◌*◌, ◌^◌, ◌<◌, ◌≤◌, List, [], ◌∷◌, ◌++◌, length, Some, None, Ok, Err, IfOk, IfSome, OnErr, MatchResult};
+ghost use Rattle.std.specs.Prelude.{reverse, true, false, if◌then◌else◌, nat_lt, ◌≡◌, ◌+◌, ◌*◌, ◌<◌, List, [], ◌∷◌, ◌++◌, length, Some, None, Ok, Err, IfOk, IfSome, OnErr, MatchResult};
 ghost use Rattle.ec_core.specs.declared.act.Entry.{Entry};
 ghost use Rattle.ec_core.specs.Acceptance.{answer_of, refused_or, refusal_in};
 ghost use Rattle.std.specs.Option.{option_map};
@@ -10,17 +10,16 @@ ghost use Rattle.ec_core.specs.Counts.{total, signaller_at, component_at, compon
 ghost use Rattle.ec_core.specs.Standing.{StandsFor, progress_of};
 ghost use Rattle.ec_core.specs.Values.{TellsAtMost};
 ghost use Rattle.ec_core.specs.Procedures.{IsReply};
-ghost use Rattle.ec_core.specs.Fields.{stored_progress, component_in, right_in, already_in, is_full_for, read_effect, effect_in, effect_or_refusal, apply_effect, with_round, op_in, IsNamed, IsRightStep};
+ghost use Rattle.ec_core.specs.Fields.{component_in, right_in, already_in, is_full_for, read_effect, effect_in, effect_or_refusal, apply_effect, with_round, op_in, IsNamed, IsRightStep};
 
 use crate::effect::Effect;
 use crate::fields::{
     component_count, component_sum, count_in, declared_signallers, is_too_large, raise_at,
     raise_in, same_again, ticket_count,
 };
-use crate::signallers::Signallers;
 use crate::under_way::Round;
 use crate::{Act, Entry, Refusal, Reply, UnderWay, VALUE_MAX};
-use ec_count::{CellId, Count, EventId, SeqId, Setup, WorkerId, filled};
+use ec_count::{CellId, Count, EventId, Members, SeqId, Setup, WorkerId, filled};
 use std::marker::Model;
 
 /// Returns the refusal, if the test holds.
@@ -52,7 +51,7 @@ pub struct Step {
 #[derive(Drop)]
 pub struct World {
     setup: Setup,
-    signal: [Signallers; 32],
+    signal: [Members; 32],
     counts: [[Count; 16]; 32],
     issued: [Count; 32],
     cells: [u64; 256],
@@ -116,7 +115,7 @@ impl World {
         ensures { (h : List Entry) → StandsFor self.now h → result ≡ signaller_at self.now.setup event (reverse h) component }
     {
         let signallers = &self.signal[event.get()];
-        signallers.signaller(component)
+        signallers.get(component)
     }
 
     /// Returns the component of an eventcount that the worker signals now; `None` if it signals
@@ -135,7 +134,7 @@ impl World {
         ensures few { IfSome result (λ c. c < 16) }
     {
         let signallers = &self.signal[event.get()];
-        signallers.component(worker)
+        signallers.place(worker)
     }
 
     /// Returns the total of an eventcount, the number of its advances; `None` if it is not
@@ -312,7 +311,7 @@ impl World {
             Effect::Get(_) => {}
             Effect::Hand(event, to) => {
                 let signallers = &mut self.signal[event.get()];
-                signallers.hand(worker, to);
+                signallers.replace(worker, to);
             }
         }
     }

@@ -4,7 +4,7 @@ ghost use Rattle.ec_count.specs.declared.target.Target.{Target};
 ghost use Rattle.indexmap.specs.IndexMap.{spare};
 ghost use Rattle.std.specs.Map.{lookup};
 ghost use Rattle.ec_count.specs.Reserved.{is_name};
-ghost use Rattle.std.specs.Prelude.{◌≡◌, ◌<◌, ◌++◌, ◌∷◌, [], true, length, IfErr, IfOk, IfSome, OnErr, OnOk, MatchOption, option_map, slice_get};
+ghost use Rattle.std.specs.Prelude.{◌≡◌, ◌<◌, ◌++◌, ◌∷◌, [], true, length, IfErr, IfOk, OnErr, OnOk, MatchOption, option_map, slice_get};
 
 use crate::Target;
 use crate::reserved::is_name;
@@ -133,23 +133,13 @@ impl Names {
         Ok(())
     }
 
-    fn entry(&self, place: usize) -> Option<(&[u8], Target)>
-        ensures value { option_map (λ e. (e.0.now, e.1)) result ≡ slice_get self.now place }
-        ensures named { IfSome result (λ e. is_name e.0.now ≡ true) }
-    {
-        match self.table.get_index(place) {
-            None => None,
-            Some((name, target)) => Some((name.as_slice(), *target)),
-        }
-    }
-
     /// Returns the name at a position, and its target.
     pub fn at(&self, place: usize) -> Option<(&str, Target)>
         ensures { option_map (λ e. (e.0.now, e.1)) result ≡ slice_get self.now place }
     {
-        match self.entry(place) {
+        match self.table.get_index(place) {
             None => None,
-            Some((name, target)) => Some((name_text(name), target)),
+            Some((name, target)) => Some((name_text(name.as_slice()), *target)),
         }
     }
 

@@ -1,8 +1,7 @@
 //! The advances of all eventcounts, as a pass over a history stores them.
 ghost use Rattle.std.specs.Prelude.{◌≡◌, ◌<◌, Some, None, [], length, IfOk, IfSome, OnOk};
 ghost use Rattle.ec_core.specs.Rounds.{read_event};
-ghost use Rattle.ec_order.specs.AdvanceLogModel.{AreAdvanceLogs, FollowsReading, IsPointBy};
-ghost use Rattle.ec_order.specs.AdvanceLogModel.{NotesAlone, ended_event};
+ghost use Rattle.ec_order.specs.AdvanceLogModel.{AreAdvanceLogs, FollowsReading, IsPointBy, NotesAlone, ended_event};
 
 use crate::Call;
 use crate::advance_log::AdvanceLog;

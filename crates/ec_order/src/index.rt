@@ -1,5 +1,5 @@
 //! Points by an index of the advances.
-ghost use Rattle.std.specs.Prelude.{◌≡◌, ℕ, ◌<◌, ◌+◌, [], ◌∷◌, ◌++◌, length, reverse, slice_set, slice_index_or, IfOk, OnOk, IfSome};
+ghost use Rattle.std.specs.Prelude.{◌≡◌, ℕ, ◌<◌, ◌+◌, [], ◌∷◌, ◌++◌, length, reverse, slice_set, IfOk, OnOk, IfSome};
 ghost use Rattle.ec_order.specs.Index.{moment_of_advance, moments_in, IsIndex, NotesAct, point_in, advanced_event};
 
 use crate::Call;
@@ -96,11 +96,6 @@ pub(crate) fn point(lists: &[NumberList], call: &Call) -> usize
             call.round
                 .max(moment_of_advance(moments, call.reply.number()))
         }
-        Act::Advance(_)
-        | Act::Go
-        | Act::Ticket(_)
-        | Act::Put(_, _)
-        | Act::Get(_)
-        | Act::Hand(_, _) => call.last,
+        _ => call.last,
     }
 }

@@ -5,12 +5,12 @@ ghost use Rattle.ec_core.specs.Acceptance.{IsAccepted};
 ghost use Rattle.ec_core.specs.Calls.{is_go};
 ghost use Rattle.ec_order.specs.AdvanceLogModel.{FollowsReading};
 ghost use Rattle.ec_order.specs.Walk.{is_one_entry_act, IsDue};
-ghost use Rattle.ec_order.specs.Linearizer.{entry_of_call, linearized_entries, entries_from_moment, due_moment, read_comes, IsLinearizer, PutsByPoint, TakesIn, IsGoodLinearization};
+ghost use Rattle.ec_order.specs.Linearizer.{linearized_entries, due_moment, read_comes, IsLinearizer, PutsByPoint, TakesIn, IsGoodLinearization};
 
 use crate::advances::Advances;
 use crate::bit_vec::{BitIter, BitVec};
 use crate::linearized_reads::LinearizedReads;
-use crate::scan::{add_entry, go_on, is_last};
+use crate::scan::{add_entry, go_on};
 use crate::{Call, LinearizedEntry, OrderFault};
 use ec_core::{Act, Audit, Entries, Entry, PendingCalls, Segments};
 use ec_count::Setup;
@@ -41,17 +41,6 @@ impl<'a> Model for Linearizer<'a> {
     ghost view = { λ s. record { setup = s.setup.now; under_way = s.under_way; advances = s.advances; marks = s.marks; one_entry_calls = s.one_entry_calls; readings = s.readings; out_of_memory = s.out_of_memory } };
 }
 
-/// Returns a call, written as one entry.
-fn entry_of_call(call: &Call) -> Entry
-    ensures { result ≡ entry_of_call call.now }
-{
-    Entry {
-        worker: call.worker,
-        act: call.op,
-        reply: call.reply,
-    }
-}
-
 /// Adds an entry that ends a read or an await, by its act and the call, and stores the call by its
 /// point.
 fn store_read(
@@ -65,7 +54,12 @@ fn store_read(
 {
     let point = advances.point(call);
     advances.end(act, call);
-    readings.put(point, &entry_of_call(call))
+    let entry = Entry {
+        worker: call.worker,
+        act: call.op,
+        reply: call.reply,
+    };
+    readings.put(point, &entry)
 }
 
 impl<'a> Linearizer<'a> {
@@ -94,7 +88,7 @@ impl<'a> Linearizer<'a> {
         ensures kept { OnOk result (TakesIn self.old place entry.now self.new) }
     {
         self.setup.invariant();
-        if is_last(entry.reply) {
+        if !entry.reply.is_pending() {
             if let Act::Go = entry.act {
                 return self.end(place, entry);
             }
@@ -139,7 +133,13 @@ impl<'a> Linearizer<'a> {
         if self.out_of_memory {
             return Err(OrderFault::Memory);
         }
-        Ok(Linearization::all(&self.marks, &self.one_entry_calls, &self.readings))
+        Ok(Linearization {
+            marks: self.marks.iter(),
+            one_entry_calls: self.one_entry_calls.entries(),
+            readings: &self.readings,
+            position: 0,
+            given: 0,
+        })
     }
 }
 
@@ -162,10 +162,7 @@ impl<'a> Audit for Linearizer<'a> {
 fn is_one_entry_act(act: Act) -> bool
     ensures { result ≡ is_one_entry_act act }
 {
-    match act {
-        Act::Read(_) | Act::Await(_, _) | Act::Go => false,
-        Act::Advance(_) | Act::Ticket(_) | Act::Put(_, _) | Act::Get(_) | Act::Hand(_, _) => true,
-    }
+    !matches!(act, Act::Read(_) | Act::Await(_, _) | Act::Go)
 }
 
 /// Returns whether the next entry is a read or an await that returns at once.
@@ -224,21 +221,6 @@ impl<'a> Model for Linearization<'a> {
     ghost view = { λ s. entries_from_moment s.position s.marks s.one_entry_calls (drop s.given s.readings.now) };
 
     ghost invariant = { λ s. s.position + length s.marks < 2 ^ 64 };
-}
-
-impl<'a> Linearization<'a> {
-    /// Returns an iterator over all calls.
-    fn all(marks: &'a BitVec, one_entry_calls: &'a Segments, readings: &'a LinearizedReads) -> Self
-        ensures { result ≡ entries_from_moment 0 marks.now one_entry_calls.now readings.now }
-    {
-        Linearization {
-            marks: marks.iter(),
-            one_entry_calls: one_entry_calls.entries(),
-            readings,
-            position: 0,
-            given: 0,
-        }
-    }
 }
 
 impl<'a> Iterator for Linearization<'a> {

@@ -5,37 +5,27 @@ ghost use Rattle.ec_core.specs.declared.act.Entry.{Entry};
 ghost use Rattle.ec_order.specs.Calls.{finished_calls, call_ended_by, Ending};
 
 use crate::Call;
-use ec_core::{Entry, PendingCall, PendingCalls, Reply, Run};
+use ec_core::{Entry, PendingCall, PendingCalls, Run};
 use ec_count::Setup;
 use std::alloc::{AllocError, Global};
-
-/// Returns whether a reply ends a call.
-#[inline(always)]
-pub(crate) fn is_last(reply: Reply) -> bool
-    ensures { result ≡ not (is_pending reply) }
-{
-    !reply.is_pending()
-}
 
 /// Returns the call that the entry at position i ends, if it ends one, given the call so far.
 #[inline(always)]
 fn call_ended_by(entry: &Entry, call: &Option<PendingCall>, i: usize) -> Option<Call>
     ensures { result ≡ call_ended_by entry.now i call.now }
 {
-    if !is_last(entry.reply) {
+    if entry.reply.is_pending() {
         return None;
     }
-    match call {
-        Some(call) => Some(Call {
-            worker: entry.worker,
-            op: call.op,
-            reply: entry.reply,
-            first: call.first,
-            round: call.round,
-            last: i,
-        }),
-        None => None,
-    }
+    let call = (*call)?;
+    Some(Call {
+        worker: entry.worker,
+        op: call.op,
+        reply: entry.reply,
+        first: call.first,
+        round: call.round,
+        last: i,
+    })
 }
 
 /// Adds the entry at position i to the pending calls, and returns the call that it ends, if it ends
@@ -67,7 +57,7 @@ pub(crate) fn finished_count(run: &Run) -> usize
     let mut count = 0;
     for i in 0..run.len() {
         if let Some(entry) = run.entry(i) {
-            if is_last(entry.reply) {
+            if !entry.reply.is_pending() {
                 count += 1;
             }
         }

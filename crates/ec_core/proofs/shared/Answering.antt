@@ -1,12 +1,12 @@
 -- A world answers as its history says.
 use Rattle.std.proofs.Common.{◌≡◌, ℕ, suc, ◌+◌, ◌%◌, ◌<◌, ◌≤◌, Bool, true, false, not, ◌&&◌, List, [], ◌∷◌, length, Option, Some, None, is_some, nat_le, unwrap_or, Ok, refl, ap, ◌∙◌, arith, add-one, subst, cond, ◌==◌}
-use Rattle.std.specs.List.{position_from}
 use Rattle.std.specs.Option.{option_map, option_map_or}
 use Rattle.std.proofs.lemmas.Bool.{eqb-true, leb-false, leb-true}
 use Rattle.std.proofs.lemmas.Nat.{mod_below}
 use Rattle.std.proofs.Math.Nat.{suc-mod, mod_self, mod-eq_of_lt}
 use Rattle.ec_count.specs.Tables.{Tables, IsDeclared}
 use Rattle.ec_count.specs.Members.{index_of}
+use Rattle.ec_count.proofs.Membership.{place_within}
 use Rattle.ec_count.proofs.shared.Declared.{few_signallers, some_signaller}
 use Rattle.ec_core.specs.declared.act.Act.{Act}
 use Rattle.ec_core.specs.declared.act.Act.TheVariants.{Advance, Read, Await, Go, Ticket, Put, Get, Hand}
@@ -24,15 +24,6 @@ use Rattle.ec_core.specs.Standing.{State, Represents, count_at, call_progress, p
 use Rattle.ec_core.specs.Progress.{Progress, RoundSoFar}
 use Rattle.ec_core.specs.Fields.{stored_progress, component_in, right_in, already_in, is_full, is_full_for, count_value, read_with, read_component, read_effect, IsNamed}
 use Rattle.ec_core.proofs.shared.Signalling.{signallers_length}
-
--- a position is within the list
-pub place_within : (w : ℕ) (ws : List ℕ) (low c : ℕ) → position_from (λ v. v == w) low ws ≡ Some c → c < low + length ws
-place_within w [] low c h = cc
-place_within w (v ∷ ws) low c h =
-    elim (v == w) as (λ b. cond b (Some low) (position_from (λ u. u == w) (low + 1) ws) ≡ Some c → c < low + suc (length ws)) [
-      | true ↦ λ e. (let k : low ≡ c = cc in omega arith)
-      | false ↦ λ e. (let k : c < low + 1 + length ws = place_within w ws (low + 1) c e in omega arith)
-    ] h
 
 -- an eventcount has at most 16 components
 pub width_few : (t : Tables) (e : ℕ) → IsDeclared t → component_count t e ≤ 16

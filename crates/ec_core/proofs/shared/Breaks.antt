@@ -6,7 +6,7 @@ use Rattle.ec_core.specs.declared.act.Entry.{Entry}
 use Rattle.ec_core.specs.Counts.{past_at}
 use Rattle.ec_core.specs.Rounds.{IsPastOf}
 use Rattle.ec_core.specs.Following.{Rule, block, is_right, Follow, BreaksAt}
-use Rattle.ec_core.specs.FollowingLaws.{FollowingHoldsOfPrefixes, FollowsOrBreaks, BreaksAreFirst}
+use Rattle.ec_core.specs.Laws.{FollowingHoldsOfPrefixes, FollowsOrBreaks, BreaksAreFirst}
 use Rattle.ec_core.proofs.shared.Joining.{get_back}
 use Rattle.ec_core.proofs.shared.Moments.{past_next, past_end, moment_before}
 

@@ -8,8 +8,7 @@ use Rattle.std.proofs.lemmas.List.Sorted.{sum_by-IsPermutation, IsPermutation-re
 use Rattle.ec_count.specs.Tables.{Tables}
 use Rattle.ec_core.specs.declared.act.Entry.{Entry}
 use Rattle.ec_core.specs.Counts.{past_at, total, component_total, issued, cell_value, is_advance, is_ticket, is_place, component_at, put_in, sum_to}
-use Rattle.ec_core.specs.InOrder.{advances_at, put_at, IsLastPut, IsUntouched}
-use Rattle.ec_core.specs.Laws.{TotalsCountAdvances, ComponentsCountAdvances, IssuedCountsTickets, CellsHoldTheLastPut, TotalsRiseByOne}
+use Rattle.ec_core.specs.Laws.{TotalsCountAdvances, ComponentsCountAdvances, IssuedCountsTickets, CellsHoldTheLastPut, TotalsRiseByOne, advances_at, put_at, IsLastPut, IsUntouched}
 use Rattle.ec_core.proofs.shared.Moments.{past_next, past_end}
 
 total_of : (e : ℕ) (past : List Entry) → total e past ≡ count_by (λ x. is_advance e x.act) past

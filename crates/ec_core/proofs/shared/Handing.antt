@@ -1,35 +1,22 @@
 -- What a hand does to the signallers, if no act is refused.
-use Rattle.std.proofs.Common.{◌≡◌, ℕ, ◌+◌, true, false, not, ◌||◌, List, [], ◌∷◌, Option, Some, None, is_some, Ok, refl, ap, sym, ◌∙◌, cond, ◌==◌}
-use Rattle.std.specs.List.{position_from}
+use Rattle.std.proofs.Common.{◌≡◌, ℕ, true, false, not, List, [], ◌∷◌, Option, Some, None, is_some, Ok, refl, ap, sym, ◌∙◌, cond, ◌==◌}
 use Rattle.std.proofs.lemmas.Bool.{eqb-true}
 use Rattle.ec_count.specs.Tables.{Tables, IsDeclared, signallers, may_hand}
-use Rattle.ec_count.specs.Members.{is_member, has_repeat, index_of}
+use Rattle.ec_count.specs.Members.{is_member, has_repeat, index_of, replace_at}
+use Rattle.ec_count.proofs.Membership.{has_place}
 use Rattle.ec_count.proofs.shared.Distinct.{set_distinct}
 use Rattle.ec_core.specs.declared.act.Act.{Act}
 use Rattle.ec_core.specs.declared.act.Act.TheVariants.{Advance, Read, Await, Go, Ticket, Put, Get, Hand}
 use Rattle.ec_core.specs.declared.act.Reply.{Reply}
 use Rattle.ec_core.specs.declared.act.Entry.{Entry}
-use Rattle.ec_core.specs.Counts.{replace_at, signallers_after, signallers_at, component_at}
+use Rattle.ec_core.specs.Counts.{signallers_after, signallers_at, component_at}
 use Rattle.ec_core.specs.Acceptance.{answer_of, IsAccepted}
 use Rattle.ec_core.proofs.shared.Answering.{allowed}
 use Rattle.ec_core.proofs.shared.Signalling.{different_signallers}
 
--- who has no position in a list is not a member of it
-pub no_member : (w : ℕ) (ws : List ℕ) (low : ℕ) → position_from (λ v. v == w) low ws ≡ None → is_member w ws ≡ false
-no_member w [] low h = refl
-no_member w (x ∷ xs) low h =
-    elim (x == w) as (λ b. cond b (Some low) (position_from (λ v. v == w) (low + 1) xs) ≡ None → (b || is_member w xs) ≡ false) [
-      | true ↦ λ e. cc
-      | false ↦ λ e. no_member w xs (low + 1) e
-    ] h
-
-none_from : (o : Option ℕ) → is_some o ≡ false → o ≡ None
-none_from None h = refl
-none_from (Some c) h = cc
-
 -- a worker without a component is not a signaller
 pub new_signaller : (t : Tables) (past : List Entry) (e b : ℕ) → is_some (component_at t e past b) ≡ false → is_member b (signallers_at t e past) ≡ false
-new_signaller t past e b h = no_member b (signallers_at t e past) 0 (none_from (component_at t e past b) h)
+new_signaller t past e b h = sym (has_place b 0 (signallers_at t e past)) ∙ h
 
 replaced_different : (o : Option ℕ) (b : ℕ) (ws : List ℕ) → is_member b ws ≡ false → has_repeat ws ≡ false → has_repeat (replace_at o b ws) ≡ false
 replaced_different None b ws new different = different

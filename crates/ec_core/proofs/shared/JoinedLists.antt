@@ -10,7 +10,7 @@ use Rattle.ec_core.specs.declared.act.Entry.{Entry}
 use Rattle.ec_core.specs.Calls.{CallSoFar, under_way}
 use Rattle.ec_core.specs.Following.{CompletedCall, Rule, extend_list, block}
 use Rattle.ec_core.specs.JoinedLists.{completed_calls_of, is_whole, ComesNext, IsListPrefix, IsWholeList, IsJoined, SpeaksOf, calls_on, going_on, op_of, IsOther, MayComeNext, IsSideBySide, IsUnbroken}
-use Rattle.ec_core.specs.FollowingLaws.{FollowingMeansJoinedLists, FollowingMeansUnbrokenLists}
+use Rattle.ec_core.specs.Laws.{FollowingMeansJoinedLists, FollowingMeansUnbrokenLists}
 use Rattle.ec_core.proofs.shared.Joining.{get_back, last_get}
 use Rattle.std.proofs.lemmas.List.Elements.{All-head, All-tail}
 use Rattle.ec_core.proofs.shared.FittingCalls.{is_fitting, list_after, AreFitting, after_more, fitting_more, block_is, IsFittingCall, FitsAlone, fits_alone, follow_alone}

@@ -1,32 +1,13 @@
 -- Elements by position, after a write at one position.
-use Rattle.std.proofs.Common.{◌≡◌, ◌≢◌, ℕ, zero, suc, ◌<◌, true, false, ◌&&◌, List, [], ◌∷◌, length, Option, Some, None, refl, ap, sym, ◌∙◌, arith, cond, slice_get, slice_set, unwrap_or, ◌==◌}
+use Rattle.std.proofs.Common.{◌≡◌, ℕ, true, false, ◌&&◌, List, [], Option, Some, None, refl, ap, sym, ◌∙◌, cond, slice_get, slice_set, unwrap_or, ◌==◌}
 use Rattle.std.specs.Option.{option_map, option_map_or, option_and_then}
-use Rattle.std.proofs.lemmas.Bool.{eqb-true, eqb-false}
+use Rattle.std.proofs.lemmas.Bool.{eqb-true}
 use Rattle.std.proofs.Math.ListN.{get_or}
 use Rattle.std.proofs.lemmas.Option.{slice_get_within, unwrap_or-slice_get}
 use Rattle.ec_count.specs.CountModel.{CountModel}
+pub use Rattle.ec_count.proofs.Membership.{get_set}
 use Rattle.ec_core.specs.Fields.{map_at}
 use Rattle.ec_core.specs.Standing.{count_at}
-
-get_same : {X : Type 0} (xs : List X) (i : ℕ) (y : X) → i < length xs → slice_get (slice_set xs i y) i ≡ Some y
-get_same [] i y h = absurd (omega arith)
-get_same (x ∷ xs) zero y h = refl
-get_same (x ∷ xs) (suc i) y h = get_same xs i y (omega arith)
-
-get_other : {X : Type 0} (xs : List X) (i j : ℕ) (y : X) → i ≢ j → slice_get (slice_set xs i y) j ≡ slice_get xs j
-get_other [] i j y h = refl
-get_other (x ∷ xs) zero zero y h = absurd (h refl)
-get_other (x ∷ xs) zero (suc j) y h = refl
-get_other (x ∷ xs) (suc i) zero y h = refl
-get_other (x ∷ xs) (suc i) (suc j) y h = get_other xs i j y (λ e. h (ap suc e))
-
--- the element at a position of a list after one element was written
-pub get_set : {X : Type 0} (xs : List X) (i j : ℕ) (y : X) → i < length xs → slice_get (slice_set xs i y) j ≡ cond (i == j) (Some y) (slice_get xs j)
-get_set xs i j y h =
-    elim (i == j) as (λ b. (i == j) ≡ b → slice_get (slice_set xs i y) j ≡ cond b (Some y) (slice_get xs j)) [
-      | true ↦ λ e. (let same : i ≡ j = eqb-true i j e in ap (λ k. slice_get (slice_set xs i y) k) (sym same) ∙ get_same xs i y h)
-      | false ↦ λ e. get_other xs i j y (eqb-false i j e)
-    ] refl
 
 -- the element at a position of a list after one element was changed
 pub get_changed : {X : Type 0} (f : X → X) (xs : List X) (i j : ℕ) → slice_get (map_at f xs i) j ≡ cond (i == j) (option_map f (slice_get xs j)) (slice_get xs j)

@@ -3,13 +3,13 @@ use Rattle.std.proofs.Common.{◌≡◌, ℕ, true, false, List, [], ◌∷◌, 
 use Rattle.std.proofs.Math.ListN.{length-set}
 use Rattle.std.specs.Option.{option_map_or}
 use Rattle.ec_count.specs.Tables.{Tables, IsDeclared, signallers}
-use Rattle.ec_count.specs.Members.{has_repeat, index_of}
+use Rattle.ec_count.specs.Members.{has_repeat, index_of, replace_at}
 use Rattle.ec_count.specs.declared.setup.Rights.{Rights}
 use Rattle.ec_count.proofs.shared.Declared.{rights_at}
 use Rattle.ec_core.specs.declared.act.Act.{Act}
 use Rattle.ec_core.specs.declared.act.Act.TheVariants.{Advance, Read, Await, Go, Ticket, Put, Get, Hand}
 use Rattle.ec_core.specs.declared.act.Entry.{Entry}
-use Rattle.ec_core.specs.Counts.{replace_at, signallers_after, signallers_at}
+use Rattle.ec_core.specs.Counts.{signallers_after, signallers_at}
 use Rattle.ec_core.specs.Rounds.{component_count}
 
 -- the declared signallers are different

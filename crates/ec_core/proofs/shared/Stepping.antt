@@ -3,11 +3,11 @@ use Rattle.std.proofs.Common.{◌≡◌, ℕ, suc, ◌+◌, ◌%◌, ◌<◌, Bo
 use Rattle.std.proofs.lemmas.List.{reverse-append}
 use Rattle.std.specs.Option.{option_map, option_map_or, option_and_then}
 use Rattle.std.proofs.lemmas.Option.{slice_get_within, get_or_from_slice_get}
-use Rattle.std.proofs.lemmas.Bool.{and_parts, eqb-true, eq-eqb, leb-false}
+use Rattle.std.proofs.lemmas.Bool.{and_parts, eqb-true, leb-false}
 use Rattle.std.proofs.lemmas.Nat.{mod_below}
 use Rattle.std.proofs.Math.Nat.{zero-mod, zero-add}
 use Rattle.ec_count.specs.Tables.{Tables, IsDeclared, signallers}
-use Rattle.ec_count.specs.Members.{index_of, is_member}
+use Rattle.ec_count.specs.Members.{index_of, is_member, replace_at, replace_unless_member}
 use Rattle.ec_count.specs.CountModel.{CountModel, count_up}
 use Rattle.ec_core.specs.declared.act.Act.{Act}
 use Rattle.ec_core.specs.declared.act.Act.TheVariants.{Advance, Read, Await, Go, Ticket, Put, Get, Hand}
@@ -19,12 +19,12 @@ use Rattle.ec_core.specs.declared.effect.Effect.{Effect}
 use Rattle.ec_core.specs.declared.effect.Effect.TheVariants as effects
 use Rattle.ec_core.specs.Progress.{Progress, RoundSoFar}
 use Rattle.ec_core.specs.Following.{opening_act}
-use Rattle.ec_core.specs.Counts.{replace_at, signallers_at, signallers_after, component_at, component_total, issued, cell_value, is_advance, is_ticket, put_in, is_place}
+use Rattle.ec_core.specs.Counts.{signallers_at, signallers_after, component_at, component_total, issued, cell_value, is_advance, is_ticket, put_in, is_place}
 use Rattle.ec_core.specs.Calls.{CallSoFar, under_way, is_pending, call_with_act}
 use Rattle.ec_core.specs.Rounds.{event_or, component_count, sum_read, next_component, round_reply, read_reply, go_reply}
 use Rattle.ec_core.specs.Acceptance.{reply_of, answer_of, refusal_of, refusal_in, refused_or, has_right, is_at_limit}
 use Rattle.ec_core.specs.Standing.{State, Represents, count_at, call_progress, progress_of, StandsFor}
-use Rattle.ec_core.specs.Fields.{component_in, right_in, already_in, replace_unless_member, is_full_for, count_value, read_with, new_progress, read_effect, with_round, as_first, effect_in, reply_of_effect, apply_effect, op_in, IsNamed, effect_or_refusal, IsRightStep}
+use Rattle.ec_core.specs.Fields.{component_in, right_in, already_in, is_full_for, count_value, read_with, new_progress, read_effect, with_round, as_first, effect_in, reply_of_effect, apply_effect, op_in, IsNamed, effect_or_refusal, IsRightStep}
 use Rattle.ec_core.proofs.shared.Answering.{width_few, width_some, kept_is, is_some_map, component_is, right_is, already_is, full_is, round_of, read_is, IsReadingCall, IsAllowed, allowed, call_reads, reading_event}
 use Rattle.ec_core.proofs.ReplyKinds.{kind_is}
 use Rattle.ec_core.proofs.shared.Bounds.{told_small}

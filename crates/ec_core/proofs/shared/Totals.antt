@@ -8,7 +8,8 @@ use Rattle.ec_core.specs.declared.act.Entry.{Entry}
 use Rattle.ec_core.specs.Counts.{total, component_total, sum_to, is_advance, is_place, signallers_at, component_at}
 use Rattle.ec_core.specs.Rounds.{component_count, sum_read, IsPastOf, IsPastOfEach, EachIsPastOf}
 use Rattle.ec_core.specs.Acceptance.{IsAccepted, has_right}
-use Rattle.ec_core.proofs.shared.Answering.{place_within, allowed, width_few}
+use Rattle.ec_count.proofs.Membership.{place_within}
+use Rattle.ec_core.proofs.shared.Answering.{allowed, width_few}
 use Rattle.ec_core.proofs.shared.Signalling.{signallers_length}
 use Rattle.ec_core.specs.Standing.{State, StandsFor, count_at}
 use Rattle.ec_core.specs.Fields.{count_value}

@@ -5,7 +5,7 @@ use Rattle.std.proofs.Math.Seq.{take-append_seam}
 use Rattle.ec_core.specs.declared.act.Act.{Act}
 use Rattle.ec_core.specs.Following.{CompletedCall}
 use Rattle.ec_core.specs.Procedures.{IsWritten}
-use Rattle.ec_core.specs.FollowingLaws.{AnsweredCallsAreWritten}
+use Rattle.ec_core.specs.Laws.{AnsweredCallsAreWritten}
 use Rattle.ec_core.proofs.shared.Joining.{last_get}
 
 -- a prefix of a written list, and the call that the list has next, are a prefix of it

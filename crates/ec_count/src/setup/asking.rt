@@ -84,10 +84,8 @@ impl Setup {
     pub fn may_observe(&self, event: EventId, worker: WorkerId) -> bool
         ensures { result ≡ may_observe self.now event worker }
     {
-        match self.events.as_slice().get(event.get()) {
-            Some(row) => row.observe.contains(worker),
-            None => false,
-        }
+        let row = self.events.as_slice().get(event.get());
+        row.map_or(false, |row| row.observe.contains(worker))
     }
 
     /// Returns whether the eventcount is declared, and its components are transferable.
@@ -97,10 +95,8 @@ impl Setup {
     pub fn may_hand(&self, event: EventId) -> bool
         ensures { result ≡ may_hand self.now event }
     {
-        match self.events.as_slice().get(event.get()) {
-            Some(row) => !row.fixed,
-            None => false,
-        }
+        let row = self.events.as_slice().get(event.get());
+        row.map_or(false, |row| !row.fixed)
     }
 
     /// Returns whether the worker may draw tickets of the sequencer.
@@ -108,10 +104,8 @@ impl Setup {
     pub fn may_take(&self, sequencer: SeqId, worker: WorkerId) -> bool
         ensures { result ≡ may_take self.now sequencer worker }
     {
-        match self.takers.as_slice().get(sequencer.get()) {
-            Some(take) => take.contains(worker),
-            None => false,
-        }
+        let row = self.takers.as_slice().get(sequencer.get());
+        row.map_or(false, |take| take.contains(worker))
     }
 
     /// Returns whether the worker may put into the cell.
@@ -119,10 +113,8 @@ impl Setup {
     pub fn may_write(&self, cell: CellId, worker: WorkerId) -> bool
         ensures { result ≡ may_write self.now cell worker }
     {
-        match self.cells.as_slice().get(cell.get()) {
-            Some(access) => access.write.contains(worker),
-            None => false,
-        }
+        let row = self.cells.as_slice().get(cell.get());
+        row.map_or(false, |access| access.write.contains(worker))
     }
 
     /// Returns whether the worker may get the cell's value.
@@ -130,10 +122,8 @@ impl Setup {
     pub fn may_read(&self, cell: CellId, worker: WorkerId) -> bool
         ensures { result ≡ may_read self.now cell worker }
     {
-        match self.cells.as_slice().get(cell.get()) {
-            Some(access) => access.read.contains(worker),
-            None => false,
-        }
+        let row = self.cells.as_slice().get(cell.get());
+        row.map_or(false, |access| access.read.contains(worker))
     }
 
     /// Returns whether the worker is declared and read-only.
@@ -168,56 +158,44 @@ impl Setup {
         let rows = self.cells.as_slice();
         rows.iter().any(|access| access.write.contains(worker))
     }
-}
 
-impl Setup {
     /// Returns the signallers of an eventcount in order of component; none if it is not declared.
     pub fn signallers(&self, event: EventId) -> &[WorkerId]
         ensures { result.now ≡ signallers self.now event }
     {
-        match self.events.as_slice().get(event.get()) {
-            Some(rights) => rights.signal.as_slice(),
-            None => &[],
-        }
+        let row = self.events.as_slice().get(event.get());
+        row.map_or(&[], |rights| rights.signal.as_slice())
     }
 
     /// Returns the observers of an eventcount as they were declared; none if it is not declared.
     pub fn observers(&self, event: EventId) -> &[WorkerId]
         ensures { result.now ≡ observers self.now event }
     {
-        match self.events.as_slice().get(event.get()) {
-            Some(rights) => rights.observe.as_slice(),
-            None => &[],
-        }
+        let row = self.events.as_slice().get(event.get());
+        row.map_or(&[], |rights| rights.observe.as_slice())
     }
 
     /// Returns the takers of a sequencer, as they were declared; none if it is not declared.
     pub fn takers(&self, sequencer: SeqId) -> &[WorkerId]
         ensures { result.now ≡ takers self.now sequencer }
     {
-        match self.takers.as_slice().get(sequencer.get()) {
-            Some(take) => take.as_slice(),
-            None => &[],
-        }
+        let row = self.takers.as_slice().get(sequencer.get());
+        row.map_or(&[], |take| take.as_slice())
     }
 
     /// Returns the writers of a cell, as they were declared; none if it is not declared.
     pub fn writers(&self, cell: CellId) -> &[WorkerId]
         ensures { result.now ≡ writers self.now cell }
     {
-        match self.cells.as_slice().get(cell.get()) {
-            Some(access) => access.write.as_slice(),
-            None => &[],
-        }
+        let row = self.cells.as_slice().get(cell.get());
+        row.map_or(&[], |access| access.write.as_slice())
     }
 
     /// Returns the readers of a cell, as they were declared; none if it is not declared.
     pub fn readers(&self, cell: CellId) -> &[WorkerId]
         ensures { result.now ≡ readers self.now cell }
     {
-        match self.cells.as_slice().get(cell.get()) {
-            Some(access) => access.read.as_slice(),
-            None => &[],
-        }
+        let row = self.cells.as_slice().get(cell.get());
+        row.map_or(&[], |access| access.read.as_slice())
     }
 }

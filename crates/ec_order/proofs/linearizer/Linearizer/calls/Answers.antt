@@ -11,7 +11,8 @@ returns-clause-value c = λ past s acc.
     let k = c.args.self.now in
     let out_of_memory : k.out_of_memory ≡ false = ap (λ (z : LinearizerModel). z.out_of_memory) (sym c.self.view_is) ∙ c.if-self.false in
     let declared : IsDeclared k.setup = subst IsDeclared (ap (λ (z : LinearizerModel). z.setup) c.self.view_is) c.invariant.ensures in
-    c.all.ensures ∙ ap (λ (z : LinearizerModel). entries_from_moment 0 z.marks z.one_entry_calls z.readings) c.self.view_is ∙ dates_of k past declared acc (s out_of_memory acc)
+    ap (λ ms. entries_from_moment 0 ms c.entries.result c.self.inside.readings) c.iter.ensures.value ∙ ap (λ es. entries_from_moment 0 c.self.inside.marks es c.self.inside.readings) c.entries.ensures
+    ∙ ap (λ (z : LinearizerModel). entries_from_moment 0 z.marks z.one_entry_calls z.readings) c.self.view_is ∙ dates_of k past declared acc (s out_of_memory acc)
 
 pub returns-clause-good : goal.returns-clause-good
 returns-clause-good c = λ past s acc.
