@@ -27,17 +27,11 @@ impl PackedBytes {
     pub(crate) fn of(text: &[u8]) -> Option<Self>
         ensures { IfSome result (λ k. key_bytes k ≡ text.now) }
     {
-        let n = text.len();
-        if n > 32 {
-            return None;
+        match text.len() {
+            8..=32 => Some(PackedBytes::by_eight(text)),
+            4..=7 => Some(PackedBytes::by_four(text)),
+            _ => None,
         }
-        if n >= 8 {
-            return Some(PackedBytes::by_eight(text));
-        }
-        if n < 4 {
-            return None;
-        }
-        Some(PackedBytes::by_four(text))
     }
 
     /// Returns the key of a text of eight to 32 bytes.
