@@ -10,7 +10,7 @@ ghost use Rattle.evc_explain_engine.specs.Good.{ordered_text};
 ghost use Rattle.evc_explain_engine.specs.Histories.{if_before, ends_before, named_positions, few, seen_at};
 ghost use Rattle.evc_explain_engine.specs.Histories.{seen_lines, count_reason, ticket_reason, cell_reason};
 ghost use Rattle.evc_explain_engine.specs.Histories.{distinct_reason, reason_for, IsRefusalText, ExplainsRefused};
-ghost use Rattle.evc_explain_engine.specs.Histories.{ExplainsUndecided, undecided_text, Judges, ExplainsHistories, IsUnread};
+ghost use Rattle.evc_explain_engine.specs.Histories.{ExplainsUndecided, Judges, ExplainsHistories, IsUnread};
 
 use crate::explanation::{Explanation, explain_finding, whole};
 use crate::good::ordered_bytes;
@@ -207,27 +207,8 @@ fn explain_refused(
     explain_finding(alloc, &finding, more.as_slice(), text)
 }
 
-/// Returns what is written on a history that is not decided: the value that is the cause, and the
+/// Returns the explanation of a history that is not decided: the value that is the cause, and the
 /// line of its first put.
-fn undecided_text(
-    alloc: Global,
-    text: &[u8],
-    read: &Read<'_>,
-    undecided: &Undecided,
-) -> Result<Vec<u8>, AllocError>
-    ensures { IfOk result (λ bytes. bytes.items
-        ≡ undecided_text text.now read.now.number read.now.recording undecided.now) }
-{
-    let mut bytes = Vec::new(alloc);
-    let mut out = Output::new(&mut bytes);
-    report_undecided(&mut out, read, undecided);
-    put_seen(&mut out, text, read, undecided.cause.first.first);
-    let done = out.finish();
-    out.into_writer();
-    whole(bytes, done)
-}
-
-/// Returns the explanation of a history that is not decided.
 fn explain_undecided(
     alloc: Global,
     text: &[u8],
@@ -237,7 +218,13 @@ fn explain_undecided(
     requires { IsUndecided read.now.recording undecided.now }
     ensures { IfOk result (ExplainsUndecided text.now read.now.number read.now.recording) }
 {
-    let more = undecided_text(alloc, text, read, undecided)?;
+    let mut bytes = Vec::new(alloc);
+    let mut out = Output::new(&mut bytes);
+    report_undecided(&mut out, read, undecided);
+    put_seen(&mut out, text, read, undecided.cause.first.first);
+    let done = out.finish();
+    out.into_writer();
+    let more = whole(bytes, done)?;
     let line = event_line(read, undecided.cause.second.first);
     let finding = finding_at(Cause::NotDecided, line, 0);
     explain_finding(alloc, &finding, more.as_slice(), text)
