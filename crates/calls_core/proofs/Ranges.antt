@@ -23,5 +23,10 @@ pub raised_full : (p i q : ℕ) (old now : List ℕ) → p ≤ i → i < q → n
     → length now ≡ WORKERS → (p < q → length old + (q - p) ≤ WORKERS) → ⊥
 raised_full p i q old now le lt is full room =
     let few : length old + (q - p) ≤ WORKERS = room (omega arith) in
-    omega (arith, few, ap length is, length-append old (places p (i - p)),
-    length-range_with_len p (i - p))
+    omega (
+      arith,
+      few,
+      ap length is,
+      length-append old (places p (i - p)),
+      length-range_with_len p (i - p),
+    )
