@@ -1,5 +1,5 @@
 //! The text that `check` writes.
-ghost use Rattle.std.specs.Prelude.{◌∷◌, [], ◌++◌, List, OnOk, OnErr, map};
+ghost use Rattle.std.specs.Prelude.{◌∷◌, List, OnOk, OnErr, map};
 ghost use Rattle.std.specs.List.{flat_map};
 ghost use Rattle.std.specs.Io.KnownBytes.{Appends};
 ghost use Rattle.ec_core.specs.Standing.{StandsFor};

@@ -1,5 +1,5 @@
 //! `upgrade`: reads a trace, and writes the same trace in version 2.
-ghost use Rattle.std.specs.Prelude.{◌≡◌, IfSome};
+ghost use Rattle.std.specs.Prelude.{IfSome};
 ghost use Rattle.evc_engine.specs.Upgrades.{Rewrites, Upgrades};
 ghost use Rattle.ec_text.specs.Puts.{IsWrittenOut};
 

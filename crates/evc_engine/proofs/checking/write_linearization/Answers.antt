@@ -1,5 +1,4 @@
-use Rattle.std.proofs.Common.{List, refl, sym, subst}
-use Rattle.ec_core.specs.declared.act.Entry.{Entry}
+use Rattle.std.proofs.Common.{refl, sym, subst}
 use Rattle.evc_engine.specs.Halts.{IsReadInto}
 use Rattle.evc_engine.proofs.CheckLemmas.{text_written, front_written, good_told}
 use Rattle.evc_engine.proofs.checking.write_linearization.Goals as goal
