@@ -29,7 +29,7 @@ use Rattle.calls_core.specs.declared.pending.NotedCall.{NotedCall}
 use Rattle.calls_core.specs.Pending.{noted_calls}
 use Rattle.calls_core.proofs.Beginnings.{past_next, history_next}
 use Rattle.calls_counts.specs.Faults.{is_advance, invokes_advance, Shows}
-use Rattle.calls_counts.specs.Orders.{order_from, IsOrdering}
+use Rattle.calls_counts.specs.kept.Orders.{order_from, IsOrdering}
 use Rattle.calls_counts.specs.Scanning.{FreeBelow, slot_of_call, IsCompleting, Holds, ScanKeeps, TakesIn}
 use Rattle.calls_counts.proofs.Events.{CallFits, pending_fit, completed_fit, answered_fit}
 use Rattle.calls_counts.proofs.Events.{pending_rise}

@@ -17,7 +17,7 @@ use Rattle.calls_core.specs.declared.history.Call.{Call}
 use Rattle.calls_counts.specs.declared.state.Slot.{Slot}
 use Rattle.calls_counts.specs.declared.state.PlacedRead.{PlacedRead}
 use Rattle.calls_counts.specs.ScanStates.{placed_calls}
-use Rattle.calls_counts.specs.Orders.{reads_at, order_from, IsCut}
+use Rattle.calls_counts.specs.kept.Orders.{reads_at, order_from, IsCut}
 
 -- SORTED
 

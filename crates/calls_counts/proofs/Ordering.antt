@@ -22,7 +22,7 @@ use Rattle.calls_counts.specs.Faults.{is_advance}
 use Rattle.calls_core.specs.Lists.{Each, EachFrom, EachPair}
 use Rattle.calls_counts.specs.ScanStates.{free, taken_calls, placed_calls, moments, Fits, IsSlotAt}
 use Rattle.calls_counts.specs.ScanStates.{Rises, IsPlaced, IsReadAt, Enough, IsState}
-use Rattle.calls_counts.specs.Orders.{reads_at, reads_from, order_from, IsOrdering}
+use Rattle.calls_counts.specs.kept.Orders.{reads_at, reads_from, order_from, IsOrdering}
 use Rattle.calls_core.proofs.Counting.{one_no}
 use Rattle.calls_core.specs.Linearizations.{KeepsOrder}
 use Rattle.calls_counts.proofs.Runs.{each_moved}

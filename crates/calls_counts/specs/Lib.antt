@@ -4,6 +4,6 @@ pub mod Laws
 pub mod Monitors
 pub mod CountRuns
 pub mod ScanStates
-pub mod Orders
 pub mod Scanning
 pub mod Watching
+pub mod kept

@@ -2,7 +2,7 @@
 ghost use Rattle.std.specs.Prelude.{◌≡◌, ◌+◌, ◌++◌, ◌==◌, ℕ, IfOk, OnOk};
 ghost use Rattle.std.specs.List.{filter};
 ghost use Rattle.std.specs.List.Sorted.{IsPermutation, IsNonDecreasingBy};
-ghost use Rattle.calls_counts.specs.Orders.{reads_at, order_from, IsOrdering, IsCut};
+ghost use Rattle.calls_counts.specs.kept.Orders.{reads_at, order_from, IsOrdering, IsCut};
 ghost use Rattle.calls_counts.specs.Scanning.{Completes};
 
 use crate::find::{fill, is_advance};

@@ -25,8 +25,8 @@ use Rattle.calls_distinct.specs.declared.cell.Fault.TheVariants.{Stale, Alternat
 use Rattle.calls_distinct.specs.Cells.{is_put, value_put_or_returned, value, put_call, put_pending, times}
 use Rattle.calls_distinct.specs.Cells.{AreDistinct, put_by, put_pending_by}
 use Rattle.calls_distinct.specs.Cells.{IsBegun, ShowsOf, gets, is_got}
-use Rattle.calls_distinct.specs.Zones.{store_answer, all_of, IsZone, zone_calls}
-use Rattle.calls_distinct.specs.Zones.{AreSorted, AreCrossed, crossing_fault}
+use Rattle.calls_distinct.specs.kept.Zones.{store_answer, all_of, IsZone, zone_calls}
+use Rattle.calls_distinct.specs.kept.Zones.{AreSorted, AreCrossed, crossing_fault}
 use Rattle.calls_distinct.proofs.Accesses.{IsAccess, IsCompletedAccess, IsPendingAccess}
 use Rattle.calls_distinct.proofs.Accesses.{AreAccesses}
 use Rattle.calls_distinct.proofs.Faults.{put_call_is, put_value, answered_counted, count_known}

@@ -26,7 +26,7 @@ use Rattle.calls_distinct.specs.declared.cell.Fault.{Fault}
 use Rattle.calls_distinct.specs.declared.cell.Fault.TheVariants.{Nowhere, Stale, Alternate}
 use Rattle.calls_distinct.specs.declared.verdict.Verdict.{Verdict}
 use Rattle.calls_distinct.specs.declared.verdict.Verdict.TheVariants.{Ordered, Faulty}
-use Rattle.calls_distinct.specs.Verdicts.{IsVerdict}
+use Rattle.calls_distinct.specs.kept.Verdicts.{IsVerdict}
 use Rattle.calls_distinct.specs.Cells.{IsStore, IsStoreHistory, put_call, put_pending, times, gets}
 use Rattle.calls_distinct.specs.Cells.{IsDistinctHistory, Shows}
 use Rattle.calls_distinct.proofs.Accesses.{same_history}

@@ -26,10 +26,10 @@ use Rattle.calls_distinct.specs.declared.zone.Zone.{Zone}
 use Rattle.calls_distinct.specs.Cells.{is_put, value, put_call, gets, IsStore}
 use Rattle.calls_distinct.specs.Cells.{IsStoreHistory, IsDistinctHistory, Shows}
 use Rattle.calls_distinct.specs.Outcomes.{is_put_at}
-use Rattle.calls_distinct.specs.Zones.{NotAfter, AreCrossed, crossing_fault, KeepZoneOrder, zone_calls}
-use Rattle.calls_distinct.specs.Groups.{with_call, IsGroup, IsGroupOf, grouped_calls, AreGrouped}
-use Rattle.calls_distinct.specs.Groups.{lacks_put, zones_of}
-use Rattle.calls_distinct.specs.Verdicts.{calls_of_history}
+use Rattle.calls_distinct.specs.kept.Zones.{NotAfter, AreCrossed, crossing_fault, KeepZoneOrder, zone_calls}
+use Rattle.calls_distinct.specs.kept.Groups.{with_call, IsGroup, IsGroupOf, grouped_calls, AreGrouped}
+use Rattle.calls_distinct.specs.kept.Groups.{lacks_put, zones_of}
+use Rattle.calls_distinct.specs.kept.Verdicts.{calls_of_history}
 use Rattle.calls_distinct.proofs.Facing.{either}
 use Rattle.calls_distinct.proofs.Faults.{put_call_is, put_value}
 use Rattle.calls_distinct.proofs.Checked.{gets_own}

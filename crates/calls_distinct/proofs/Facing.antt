@@ -13,7 +13,7 @@ use Rattle.calls_core.proofs.Lists.{all_from_each}
 use Rattle.calls_distinct.specs.declared.zone.Zone.{Zone}
 use Rattle.calls_distinct.specs.Cells.{is_put, value, IsDistinct, IsStale, IsBegun}
 use Rattle.calls_distinct.specs.Cells.{IsAlternation, gets, is_got}
-use Rattle.calls_distinct.specs.Zones.{key, rank, NotAfter, IsZone}
+use Rattle.calls_distinct.specs.kept.Zones.{key, rank, NotAfter, IsZone}
 use Rattle.calls_distinct.proofs.Accesses.{IsAccess}
 
 -- the calls that take effect, if the value of each get was put once

@@ -15,7 +15,7 @@ use Rattle.calls_core.proofs.Counting.{one, one_yes, one_no, count_cons, count_a
 use Rattle.calls_distinct.specs.declared.zone.Group.{Group}
 use Rattle.calls_distinct.specs.Cells.{is_put, value, put_call, gets}
 use Rattle.calls_distinct.specs.Outcomes.{is_put_at}
-use Rattle.calls_distinct.specs.Groups.{earlier, later, with_call, IsGroup, IsGroupOf}
+use Rattle.calls_distinct.specs.kept.Groups.{earlier, later, with_call, IsGroup, IsGroupOf}
 use Rattle.calls_distinct.proofs.Faults.{put_call_is, put_value}
 use Rattle.calls_distinct.proofs.Facing.{either}
 use Rattle.calls_distinct.proofs.Checked.{gets_own, gets_parts}

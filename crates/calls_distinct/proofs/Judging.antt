@@ -15,9 +15,9 @@ use Rattle.calls_distinct.specs.declared.zone.GroupedCall.{GroupedCall}
 use Rattle.calls_distinct.specs.declared.zone.Zone.{Zone}
 use Rattle.calls_distinct.specs.Cells.{IsStore, IsStoreHistory, IsDistinctHistory, Shows, value}
 use Rattle.calls_distinct.specs.Outcomes.{IsRepeated}
-use Rattle.calls_distinct.specs.Zones.{NotAfter, zone_calls, AreCrossed, crossing_fault, KeepZoneOrder}
-use Rattle.calls_distinct.specs.Groups.{repeats, lacks_put, zones_of}
-use Rattle.calls_distinct.specs.Verdicts.{AreGroupedOf}
+use Rattle.calls_distinct.specs.kept.Zones.{NotAfter, zone_calls, AreCrossed, crossing_fault, KeepZoneOrder}
+use Rattle.calls_distinct.specs.kept.Groups.{repeats, lacks_put, zones_of}
+use Rattle.calls_distinct.specs.kept.Verdicts.{AreGroupedOf}
 use Rattle.calls_distinct.proofs.Accesses.{AreAccesses, zero_first, accesses_of}
 use Rattle.calls_distinct.proofs.Checked.{ordered, crossed_shows}
 use Rattle.calls_distinct.proofs.Verdicts.{all_distinct, is_repeated, in_time, from_nowhere}

@@ -9,7 +9,7 @@ use Rattle.std.proofs.lemmas.List.Elements.{Contains-append_left, Contains-appen
 use Rattle.calls_core.specs.Lists.{Each, EachPair}
 use Rattle.calls_core.proofs.Lists.{each_weaker, each_append, each_pair_append, each_pair_across}
 use Rattle.calls_distinct.specs.declared.zone.Zone.{Zone}
-use Rattle.calls_distinct.specs.Zones.{NotAfter, AreCrossed, KeepZoneOrder, IsLatest, latest}
+use Rattle.calls_distinct.specs.kept.Zones.{NotAfter, AreCrossed, KeepZoneOrder, IsLatest, latest}
 use Rattle.calls_distinct.proofs.Sorted.{each_of}
 use Rattle.calls_distinct.proofs.Steps.{contains_at}
 

@@ -22,7 +22,7 @@ use Rattle.calls_core.proofs.Counting.{one, one_no, count_cons, count_append, co
 use Rattle.calls_distinct.specs.Cells.{is_put, value_put_or_returned, value, put_call, put_pending, times, gets}
 use Rattle.calls_distinct.specs.Cells.{is_got}
 use Rattle.calls_distinct.specs.Outcomes.{is_put_at, put_pending_at}
-use Rattle.calls_distinct.specs.Zones.{put_answer, begun_calls, store_answer, all_of}
+use Rattle.calls_distinct.specs.kept.Zones.{put_answer, begun_calls, store_answer, all_of}
 use Rattle.calls_distinct.proofs.Accesses.{IsCompletedAccess}
 
 -- LISTS

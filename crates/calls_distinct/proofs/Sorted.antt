@@ -22,7 +22,7 @@ use Rattle.calls_core.proofs.Lists.{each_pair_across, all_from_each}
 use Rattle.calls_core.proofs.Counting.{Split, in_either}
 use Rattle.calls_distinct.specs.declared.zone.Zone.{Zone}
 use Rattle.calls_distinct.specs.Cells.{is_put, value_put_or_returned, value, gets, is_got}
-use Rattle.calls_distinct.specs.Zones.{key, NotAfter, IsZone, zone_calls}
+use Rattle.calls_distinct.specs.kept.Zones.{key, NotAfter, IsZone, zone_calls}
 use Rattle.calls_distinct.proofs.Accesses.{IsAccess}
 use Rattle.calls_distinct.proofs.Facing.{AreChecked, either, rank_put, rank_get, gets_of, gets_is}
 use Rattle.calls_distinct.proofs.Facing.{key_zero, key_other, one_early}

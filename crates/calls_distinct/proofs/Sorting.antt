@@ -15,7 +15,7 @@ use Rattle.calls_core.specs.Lists.{EachPair}
 use Rattle.calls_core.proofs.Filters.{each_from_all}
 use Rattle.calls_distinct.specs.declared.zone.Zone.{Zone}
 use Rattle.calls_distinct.specs.Cells.{value}
-use Rattle.calls_distinct.specs.Zones.{key, rank, zone_cmp, NotAfter}
+use Rattle.calls_distinct.specs.kept.Zones.{key, rank, zone_cmp, NotAfter}
 use Rattle.calls_core.proofs.Settling.{each_pair_from_all}
 
 abbrev pub zone_less : Zone → Zone → Bool

@@ -20,7 +20,7 @@ use Rattle.calls_core.specs.Beginnings.{past_at}
 use Rattle.calls_core.proofs.Lists.{each_append}
 use Rattle.calls_core.proofs.Counting.{one, count_cons, count_append}
 use Rattle.calls_distinct.specs.Cells.{is_put}
-use Rattle.calls_distinct.specs.Zones.{put_answer}
+use Rattle.calls_distinct.specs.kept.Zones.{put_answer}
 
 -- AN ELEMENT OF A LIST
 

@@ -19,9 +19,9 @@ use Rattle.calls_distinct.specs.declared.zone.Zone.{Zone}
 use Rattle.calls_distinct.specs.Cells.{is_put, value, put_call, put_pending, times, gets, is_got}
 use Rattle.calls_distinct.specs.Cells.{IsDistinct, AreDistinct, put_by, put_pending_by, FromNowhere}
 use Rattle.calls_distinct.specs.Outcomes.{is_put_at, put_pending_at, IsRepeated}
-use Rattle.calls_distinct.specs.Zones.{begun_calls, all_of, IsZone, NotAfter, zone_calls, AreSorted}
-use Rattle.calls_distinct.specs.Groups.{IsGroup, grouped_calls, AreGrouped, repeats, lacks_put}
-use Rattle.calls_distinct.specs.Groups.{takes_effect, zone_of, zones_of}
+use Rattle.calls_distinct.specs.kept.Zones.{begun_calls, all_of, IsZone, NotAfter, zone_calls, AreSorted}
+use Rattle.calls_distinct.specs.kept.Groups.{IsGroup, grouped_calls, AreGrouped, repeats, lacks_put}
+use Rattle.calls_distinct.specs.kept.Groups.{takes_effect, zone_of, zones_of}
 use Rattle.calls_distinct.proofs.Accesses.{AreAccesses}
 use Rattle.calls_distinct.proofs.Faults.{count_known, count_parts, some_one}
 use Rattle.calls_distinct.proofs.Facing.{either, not_true}

@@ -1,7 +1,4 @@
 pub mod Cells
-pub mod Records
 pub mod Outcomes
-pub mod Zones
-pub mod Groups
-pub mod Verdicts
 pub mod Laws
+pub mod kept

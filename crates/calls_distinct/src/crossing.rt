@@ -2,7 +2,7 @@
 ghost use Rattle.std.specs.Prelude.{◌≡◌, ◌↔◌, IsTrue, option_copied, option_map};
 ghost use Rattle.calls_core.specs.Linearizations.{Precedes};
 ghost use Rattle.calls_core.specs.Lists.{EachPair};
-ghost use Rattle.calls_distinct.specs.Zones.{NotAfter, crossing_fault, IsCrossing, latest};
+ghost use Rattle.calls_distinct.specs.kept.Zones.{NotAfter, crossing_fault, IsCrossing, latest};
 
 use crate::Fault;
 use crate::reading::gets;

@@ -6,7 +6,7 @@ ghost use Rattle.calls_core.specs.Beginnings.{past_at};
 ghost use Rattle.calls_core.specs.Outcomes.{IsFirstFault};
 ghost use Rattle.calls_distinct.specs.Cells.{IsStore, IsStoreHistory, IsDistinctHistory, Shows};
 ghost use Rattle.calls_distinct.specs.Outcomes.{IsOutcome};
-ghost use Rattle.calls_distinct.specs.Verdicts.{AreGroupedOf, IsVerdict};
+ghost use Rattle.calls_distinct.specs.kept.Verdicts.{AreGroupedOf, IsVerdict};
 
 use crate::groups::{group_calls, groups_of};
 use crate::history::calls_in;

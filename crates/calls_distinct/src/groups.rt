@@ -5,8 +5,8 @@ ghost use Rattle.std.specs.HashMap.{get};
 ghost use Rattle.std.specs.List.{Contains};
 ghost use Rattle.calls_core.specs.Lists.{Each};
 ghost use Rattle.calls_distinct.specs.Cells.{value};
-ghost use Rattle.calls_distinct.specs.Groups.{earlier, later, with_call, IsGroup, IsGroupOf};
-ghost use Rattle.calls_distinct.specs.Groups.{AreGroups, AreGrouped};
+ghost use Rattle.calls_distinct.specs.kept.Groups.{earlier, later, with_call, IsGroup, IsGroupOf};
+ghost use Rattle.calls_distinct.specs.kept.Groups.{AreGroups, AreGrouped};
 
 use crate::reading::{is_put, value};
 use crate::zone::{Group, GroupedCall};

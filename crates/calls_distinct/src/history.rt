@@ -3,7 +3,7 @@ ghost use Rattle.std.specs.Prelude.{◌≡◌, ◌++◌, reverse, IfOk, OnOk};
 ghost use Rattle.calls_core.specs.Histories.{pending_of, pending_after, ended_call};
 ghost use Rattle.calls_core.specs.Histories.{completed_calls, pending_calls};
 ghost use Rattle.calls_core.specs.Linearizations.{answered_calls};
-ghost use Rattle.calls_distinct.specs.Zones.{put_answer, begun_calls};
+ghost use Rattle.calls_distinct.specs.kept.Zones.{put_answer, begun_calls};
 
 use crate::reading::is_put;
 use calls_core::{Action, Call, Event, Part, PendingCall, Reply, take_pending};

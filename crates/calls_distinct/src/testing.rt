@@ -2,7 +2,7 @@
 ghost use Rattle.std.specs.Prelude.{◌≡◌, true, false, Option, None, Some, option_copied};
 ghost use Rattle.std.specs.List.{Contains};
 ghost use Rattle.calls_core.specs.Lists.{Each};
-ghost use Rattle.calls_distinct.specs.Groups.{repeats, lacks_put, IsFirst};
+ghost use Rattle.calls_distinct.specs.kept.Groups.{repeats, lacks_put, IsFirst};
 
 use crate::reading::{is_put, value};
 use crate::zone::GroupedCall;

@@ -3,8 +3,8 @@ ghost use Rattle.std.specs.Prelude.{◌≡◌, ◌≤◌, List, IfOk};
 ghost use Rattle.calls_core.specs.declared.history.Event.{Event};
 ghost use Rattle.calls_core.specs.Histories.{clock};
 ghost use Rattle.calls_distinct.specs.Cells.{IsStoreHistory, IsDistinctHistory};
-ghost use Rattle.calls_distinct.specs.Zones.{zone_calls};
-ghost use Rattle.calls_distinct.specs.Verdicts.{AreGroupedOf, IsVerdict};
+ghost use Rattle.calls_distinct.specs.kept.Zones.{zone_calls};
+ghost use Rattle.calls_distinct.specs.kept.Verdicts.{AreGroupedOf, IsVerdict};
 
 use crate::Fault;
 use crate::crossing::{crossing, crossing_fault};

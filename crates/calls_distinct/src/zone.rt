@@ -18,7 +18,7 @@ pub(crate) struct Group<'a> {
 }
 
 impl<'a> Model for Group<'a> {
-    ghost use Rattle.calls_distinct.specs.Records as records;
+    ghost use Rattle.calls_distinct.specs.kept.Records as records;
 
     ghost Value = { records.Group };
 
@@ -41,7 +41,7 @@ pub(crate) struct GroupedCall<'g, 'a> {
 }
 
 impl<'g, 'a> Model for GroupedCall<'g, 'a> {
-    ghost use Rattle.calls_distinct.specs.Records as records;
+    ghost use Rattle.calls_distinct.specs.kept.Records as records;
 
     ghost Value = { records.GroupedCall };
 
@@ -61,7 +61,7 @@ pub(crate) struct Zone<'a> {
 }
 
 impl<'a> Model for Zone<'a> {
-    ghost use Rattle.calls_distinct.specs.Records as records;
+    ghost use Rattle.calls_distinct.specs.kept.Records as records;
 
     ghost Value = { records.Zone };
 

@@ -2,8 +2,8 @@
 ghost use Rattle.std.specs.Prelude.{◌≡◌, ◌++◌, IfOk, take, map};
 ghost use Rattle.std.specs.List.Sorted.{IsPermutation};
 ghost use Rattle.calls_core.specs.Lists.{EachPair};
-ghost use Rattle.calls_distinct.specs.Zones.{key, rank, zone_cmp, NotAfter};
-ghost use Rattle.calls_distinct.specs.Groups.{takes_effect, zone_of, zones_of};
+ghost use Rattle.calls_distinct.specs.kept.Zones.{key, rank, zone_cmp, NotAfter};
+ghost use Rattle.calls_distinct.specs.kept.Groups.{takes_effect, zone_of, zones_of};
 
 use crate::reading::{gets, is_put, value};
 use crate::zone::{GroupedCall, Zone};

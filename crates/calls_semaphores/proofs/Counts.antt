@@ -16,7 +16,7 @@ use Rattle.calls_core.specs.Linearizations.{answered_one, answered_calls}
 use Rattle.calls_core.proofs.Counting.{one, one_no, count_cons, count_append}
 use Rattle.calls_semaphores.specs.Banks.{adds, took}
 use Rattle.calls_semaphores.specs.Monitors.{units_taken, units_added}
-use Rattle.calls_semaphores.specs.Keeping.{is_v, answer}
+use Rattle.calls_semaphores.specs.kept.Keeping.{is_v, answer}
 use Rattle.calls_semaphores.proofs.Runs.{took_of, added_of}
 
 -- AN INVOCATION

@@ -33,7 +33,7 @@ use Rattle.calls_semaphores.specs.declared.fault.Fault.{Fault}
 use Rattle.calls_semaphores.specs.Banks.{adds, takes, took, took_by, added_by, pending_added_by}
 use Rattle.calls_semaphores.specs.Faults.{Shows}
 use Rattle.calls_semaphores.specs.Monitors.{units_taken, units_added}
-use Rattle.calls_semaphores.specs.Keeping.{is_v, answer, IsLinearizationSoFar}
+use Rattle.calls_semaphores.specs.kept.Keeping.{is_v, answer, IsLinearizationSoFar}
 use Rattle.calls_semaphores.proofs.Runs.{took_of, added_of, state_after}
 use Rattle.calls_semaphores.proofs.Counts.{pending_invoke, completed_invoke, found_by}
 use Rattle.calls_semaphores.proofs.Counts.{pending_respond, completed_respond, adds_of}

@@ -14,7 +14,7 @@ use Rattle.calls_semaphores.specs.declared.fault.Fault.{Fault}
 use Rattle.calls_semaphores.specs.declared.scan.Scan.{Scan}
 use Rattle.calls_semaphores.specs.Faults.{Shows}
 use Rattle.calls_semaphores.specs.Monitors.{IsRefusedAt}
-use Rattle.calls_semaphores.specs.Keeping.{Holds}
+use Rattle.calls_semaphores.specs.kept.Keeping.{Holds}
 use Rattle.calls_semaphores.proofs.Deciding.{order_of_kept, kept_of_order, has_order}
 
 module _ (units : Vec ℕ Global) (events : List Event) (end : ℕ) (h : IsHistoryOf (Semaphores units)

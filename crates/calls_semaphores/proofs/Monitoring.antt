@@ -15,7 +15,7 @@ use Rattle.calls_core.specs.Pending.{IsPendingOf}
 use Rattle.calls_semaphores.specs.declared.bank.Bank.{Bank}
 use Rattle.calls_semaphores.specs.declared.monitor.Monitor.{Monitor}
 use Rattle.calls_semaphores.specs.Monitors.{Represents, IsRefusedAt}
-use Rattle.calls_semaphores.specs.Keeping.{is_v, IsOpened, AreAdded, TakenAs}
+use Rattle.calls_semaphores.specs.kept.Keeping.{is_v, IsOpened, AreAdded, TakenAs}
 use Rattle.calls_semaphores.proofs.Counts.{pending_invoke, pending_respond}
 use Rattle.calls_semaphores.proofs.Deciding.{HasKept, no_pending, kept_start, kept_of_order}
 use Rattle.calls_semaphores.proofs.Deciding.{has_order, has_invoked, has_v, has_other}

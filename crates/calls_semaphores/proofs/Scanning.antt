@@ -30,8 +30,8 @@ use Rattle.calls_semaphores.specs.declared.scan.Scan.{Scan}
 use Rattle.calls_semaphores.specs.Banks.{takes, took}
 use Rattle.calls_semaphores.specs.Monitors.{AreLeft, IsRefusedAt, units_left, units_taken}
 use Rattle.calls_semaphores.specs.Monitors.{units_added}
-use Rattle.calls_semaphores.specs.Keeping.{is_v, one_if, Distinct, IsOpened, AreAdded, TakenAs}
-use Rattle.calls_semaphores.specs.Keeping.{IsLinearizationSoFar, IsPlaced, Holds}
+use Rattle.calls_semaphores.specs.kept.Keeping.{is_v, one_if, Distinct, IsOpened, AreAdded, TakenAs}
+use Rattle.calls_semaphores.specs.kept.Keeping.{IsLinearizationSoFar, IsPlaced, Holds}
 use Rattle.calls_semaphores.proofs.Runs.{IsOp, state_after}
 use Rattle.calls_semaphores.proofs.Counts.{pending_invoke, pending_respond, completed_respond}
 use Rattle.calls_semaphores.proofs.Counts.{added_invoke, taken_invoke, added_respond, taken_respond}

@@ -35,7 +35,7 @@ use Rattle.calls_core.proofs.Filters.{permutation_same}
 use Rattle.calls_core.proofs.Counting.{one, one_yes, one_no, count_cons, count_append, count_moved}
 use Rattle.calls_semaphores.specs.Banks.{took}
 use Rattle.calls_semaphores.specs.Monitors.{units_taken, units_added}
-use Rattle.calls_semaphores.specs.Keeping.{is_v, answer, IsLinearizationSoFar}
+use Rattle.calls_semaphores.specs.kept.Keeping.{is_v, answer, IsLinearizationSoFar}
 use Rattle.calls_semaphores.proofs.Runs.{IsOp, took_of, added_of, state_after, run_count, run_more}
 use Rattle.calls_semaphores.proofs.Runs.{run_changed}
 use Rattle.calls_semaphores.proofs.Counts.{pending_invoke, completed_invoke, IsFound, found_by}

@@ -3,4 +3,4 @@ pub mod Faults
 pub mod Outcomes
 pub mod Laws
 pub mod Monitors
-pub mod Keeping
+pub mod kept

@@ -1,9 +1,9 @@
 //! The units that the semaphores of a bank have left.
 ghost use Rattle.std.specs.Prelude.{◌≡◌, ◌↔◌, ◌-◌, ◌<◌, IfOk, IsTrue, length, MatchOption};
 ghost use Rattle.calls_semaphores.specs.Monitors.{UpTo, GrowsByOne, units_left};
-ghost use Rattle.calls_semaphores.specs.Keeping.{Distinct, HasUnits, IsMissing, AreFewer};
-ghost use Rattle.calls_semaphores.specs.Keeping.{IsAddedAt, IsTakenAt, AreAdded, AreTaken, TakenAs};
-ghost use Rattle.calls_semaphores.specs.Keeping.{IsOpened};
+ghost use Rattle.calls_semaphores.specs.kept.Keeping.{Distinct, HasUnits, IsMissing, AreFewer};
+ghost use Rattle.calls_semaphores.specs.kept.Keeping.{IsAddedAt, IsTakenAt, AreAdded, AreTaken, TakenAs};
+ghost use Rattle.calls_semaphores.specs.kept.Keeping.{IsOpened};
 
 use calls_core::{Op, Reply};
 use std::alloc::{AllocError, Global};

@@ -4,7 +4,7 @@ ghost use Rattle.calls_core.specs.declared.history.Kind.TheVariants.{Semaphores}
 ghost use Rattle.calls_core.specs.declared.history.Action.TheVariants.{Invoke, Respond};
 ghost use Rattle.calls_core.specs.Histories.{IsHistoryOf, clock};
 ghost use Rattle.calls_semaphores.specs.Monitors.{UpTo, GrowsByOne};
-ghost use Rattle.calls_semaphores.specs.Keeping.{is_v, IsOpened, Steps};
+ghost use Rattle.calls_semaphores.specs.kept.Keeping.{is_v, IsOpened, Steps};
 ghost use Rattle.calls_semaphores.specs.Outcomes.{IsOutcome};
 
 use crate::{Bank, Fault, Outcome};

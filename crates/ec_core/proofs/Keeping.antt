@@ -12,7 +12,7 @@ use Rattle.ec_core.specs.declared.packed.ActTag.TheVariants as verbs
 use Rattle.ec_core.specs.declared.packed.ReplyTag.{ReplyTag}
 use Rattle.ec_core.specs.declared.packed.ReplyTag.TheVariants as answers
 use Rattle.ec_core.specs.declared.packed.PackedEntry.{PackedEntry}
-use Rattle.ec_core.specs.Packed.{words_of_option, words_in, word_number, two_word_number, act_tag, value_in, receiver_in, receiver_of, unpack_act, reply_tag, number_in, unpack_reply, value_word_count, number_word_count, word_count, total_word_count, pack_entry, unpack_entry, unpack_entries, AreStarts, IsSegment}
+use Rattle.ec_core.specs.kept.Packed.{words_of_option, words_in, word_number, two_word_number, act_tag, value_in, receiver_in, receiver_of, unpack_act, reply_tag, number_in, unpack_reply, value_word_count, number_word_count, word_count, total_word_count, pack_entry, unpack_entry, unpack_entries, AreStarts, IsSegment}
 
 -- WHAT WAS ADDED IS READ
 

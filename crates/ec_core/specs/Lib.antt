@@ -6,9 +6,7 @@ pub mod Acceptance
 pub mod Silence
 pub mod Progress
 pub mod Standing
-pub mod Fields
 pub mod RunModel
-pub mod Packed
 pub mod Faults
 pub mod Refusals
 pub mod Values
@@ -21,3 +19,4 @@ pub mod JoinedLists
 pub mod PendingCalls
 pub mod Scanning
 pub mod Audits
+pub mod kept

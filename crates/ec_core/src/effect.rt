@@ -1,6 +1,6 @@
 //! The effect of a step that is not refused.
 ghost use Rattle.std.specs.Prelude.{◌≡◌};
-ghost use Rattle.ec_core.specs.Fields.{reply_of_effect, as_first};
+ghost use Rattle.ec_core.specs.kept.Fields.{reply_of_effect, as_first};
 
 use crate::under_way::Round;
 use crate::{Reply, UnderWay};

@@ -2,7 +2,7 @@
 ghost use Rattle.std.specs.Prelude.{◌≡◌, ◌+◌, ◌^◌, ◌<◌, ◌∷◌, ◌++◌, [], None, Some, drop, slice_get, IfSome};
 ghost use Rattle.std.specs.List.{flat_map};
 ghost use Rattle.std.specs.Option.{IfNone};
-ghost use Rattle.ec_core.specs.Packed.{concat_segments};
+ghost use Rattle.ec_core.specs.kept.Packed.{concat_segments};
 
 use crate::Entry;
 use crate::segment::{EntryIter, Segment};

@@ -6,7 +6,7 @@ ghost use Rattle.ec_core.specs.Acceptance.{is_too_large};
 ghost use Rattle.ec_core.specs.Rounds.{component_count};
 ghost use Rattle.ec_core.specs.Counts.{sum_to};
 ghost use Rattle.ec_core.specs.Standing.{count_at};
-ghost use Rattle.ec_core.specs.Fields.{count_value, map_at};
+ghost use Rattle.ec_core.specs.kept.Fields.{count_value, map_at};
 
 use crate::{Act, VALUE_MAX};
 use ec_count::{Count, EventId, Members, Setup};

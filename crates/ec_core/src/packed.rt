@@ -1,6 +1,6 @@
 //! Entries as a run stores them.
 ghost use Rattle.std.specs.Prelude.{◌≡◌, ◌+◌, ◌^◌, ◌<◌, ◌≤◌, ℕ, List, ◌++◌, drop, length, vec_len, vec_capacity};
-ghost use Rattle.ec_core.specs.Packed.{act_tag, reply_tag, value_in, number_in, receiver_in, receiver_of, words_of_option, pack_entry, word_number, two_word_number, unpack_act, unpack_reply, value_word_count, number_word_count, word_count, total_word_count, unpack_entry};
+ghost use Rattle.ec_core.specs.kept.Packed.{act_tag, reply_tag, value_in, number_in, receiver_in, receiver_of, words_of_option, pack_entry, word_number, two_word_number, unpack_act, unpack_reply, value_word_count, number_word_count, word_count, total_word_count, unpack_entry};
 
 use crate::{Act, Entry, Reply};
 use ec_count::{CellId, EventId, SeqId, WorkerId};

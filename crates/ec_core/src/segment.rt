@@ -1,6 +1,6 @@
 //! One segment of a list of entries.
 ghost use Rattle.std.specs.Prelude.{◌≡◌, ◌+◌, ◌*◌, ◌^◌, ◌<◌, ◌≤◌, List, [], ◌∷◌, ◌++◌, drop, take, length, slice_get, vec_capacity, IfOk, IfSome, OnOk, OnErr};
-ghost use Rattle.ec_core.specs.Packed.{total_word_count, AreStarts};
+ghost use Rattle.ec_core.specs.kept.Packed.{total_word_count, AreStarts};
 
 use crate::Entry;
 use crate::packed::{PackedEntry, WordReader, add, number_in, total_word_count, value_in};
@@ -33,7 +33,7 @@ impl Model for Segment {
 
     ghost Value = { List Entry };
 
-    ghost use Rattle.ec_core.specs.Packed.{unpack_entries, IsSegment};
+    ghost use Rattle.ec_core.specs.kept.Packed.{unpack_entries, IsSegment};
 
     ghost view = { λ s. unpack_entries s.words.items s.stored.items };
 
@@ -172,7 +172,7 @@ pub(crate) struct EntryIter<'a> {
 impl<'a> Model for EntryIter<'a> {
     ghost use Rattle.std.specs.Prelude.{List};
     ghost use Rattle.ec_core.specs.declared.act.Entry.{Entry};
-    ghost use Rattle.ec_core.specs.Packed.{unpack_entries};
+    ghost use Rattle.ec_core.specs.kept.Packed.{unpack_entries};
 
     ghost Value = { List Entry };
 

@@ -1,6 +1,6 @@
 //! Lists of entries in segments.
 ghost use Rattle.std.specs.Prelude.{◌≡◌, ◌+◌, ◌^◌, ◌<◌, [], ◌∷◌, ◌++◌, length, slice_get, IfOk, IfSome, OnOk, OnErr};
-ghost use Rattle.ec_core.specs.Packed.{concat_segments, IsSegmented};
+ghost use Rattle.ec_core.specs.kept.Packed.{concat_segments, IsSegmented};
 
 use crate::segment::{SEGMENT, Segment};
 use crate::{Entries, Entry};
@@ -28,7 +28,7 @@ impl Model for Segments {
 
     ghost Value = { List Entry };
 
-    ghost use Rattle.ec_core.specs.Packed.{concat_segments, IsSegmented};
+    ghost use Rattle.ec_core.specs.kept.Packed.{concat_segments, IsSegmented};
 
     ghost view = { λ s. concat_segments s.full.items s.last };
 

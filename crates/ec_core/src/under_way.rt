@@ -1,7 +1,7 @@
 //! Pending calls, as a world stores them.
 ghost use Rattle.std.specs.Prelude.{◌≡◌, ◌+◌, ◌*◌, ◌^◌, ◌<◌, ◌≤◌, IsSome, slice_get};
 ghost use Rattle.ec_core.specs.Rounds.{event_or, read_event};
-ghost use Rattle.ec_core.specs.Fields.{new_progress, with_round, read_component, count_value};
+ghost use Rattle.ec_core.specs.kept.Fields.{new_progress, with_round, read_component, count_value};
 
 use crate::Act;
 use crate::effect::Effect;

@@ -10,7 +10,7 @@ ghost use Rattle.ec_core.specs.Counts.{total, signaller_at, component_at, compon
 ghost use Rattle.ec_core.specs.Standing.{StandsFor, progress_of};
 ghost use Rattle.ec_core.specs.Values.{TellsAtMost};
 ghost use Rattle.ec_core.specs.Procedures.{IsReply};
-ghost use Rattle.ec_core.specs.Fields.{component_in, right_in, already_in, is_full_for, read_effect, effect_in, effect_or_refusal, apply_effect, with_round, op_in, IsNamed, IsRightStep};
+ghost use Rattle.ec_core.specs.kept.Fields.{component_in, right_in, already_in, is_full_for, read_effect, effect_in, effect_or_refusal, apply_effect, with_round, op_in, IsNamed, IsRightStep};
 
 use crate::effect::Effect;
 use crate::fields::{

@@ -8,7 +8,7 @@ use Rattle.std.proofs.lemmas.Slice.Eq.{bytes_eq-Decides}
 use Rattle.std.proofs.lemmas.List.{take-map}
 use Rattle.std.proofs.lemmas.List.Elements.{All-push, All-take, recursion_from_All}
 use Rattle.ec_count.specs.Names.{find_name}
-use Rattle.ec_count.specs.SymbolTable.{AreShort, by_word}
+use Rattle.ec_count.specs.kept.SymbolTable.{AreShort, by_word}
 use Rattle.ec_count.specs.declared.target.Target.{Target}
 use Rattle.ec_count.specs.declared.symbol_table.Word.{Word}
 

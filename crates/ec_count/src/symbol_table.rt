@@ -19,7 +19,7 @@ pub(crate) struct Word {
 }
 
 impl PartialEq for Word {
-    ghost use Rattle.ec_count.specs.SymbolTable.{same_word, same_word_part};
+    ghost use Rattle.ec_count.specs.kept.SymbolTable.{same_word, same_word_part};
 
     ghost eq = { same_word };
 
@@ -31,13 +31,13 @@ impl PartialEq for Word {
 }
 
 impl Eq for Word {
-    ghost use Rattle.ec_count.specs.SymbolTable.{same_word_whole};
+    ghost use Rattle.ec_count.specs.kept.SymbolTable.{same_word_whole};
 
     ghost laws = { same_word_whole };
 }
 
 impl Hash for Word {
-    ghost use Rattle.ec_count.specs.SymbolTable.{word_alike, word_input};
+    ghost use Rattle.ec_count.specs.kept.SymbolTable.{word_alike, word_input};
 
     ghost hash_input = { word_input };
 
@@ -77,7 +77,7 @@ impl Model for SymbolTable {
 
     ghost Value = { List (List ℕ × Target) };
 
-    ghost use Rattle.ec_count.specs.SymbolTable.{AreShort, by_word};
+    ghost use Rattle.ec_count.specs.kept.SymbolTable.{AreShort, by_word};
 
     ghost view = { λ v. by_word v.table.entries };
 

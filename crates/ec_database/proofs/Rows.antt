@@ -5,7 +5,7 @@ use Rattle.std.specs.List.{range_with_len}
 use Rattle.std.proofs.lemmas.List.{take-append-le, take_all, drop-append-le}
 use Rattle.std.proofs.lemmas.List.FromFn.{map-range_with_len_more}
 use Rattle.ec_database.specs.Tries.{AcceptedTry}
-use Rattle.ec_database.specs.Rows.{try_of, try_at, tries_in, AreRows}
+use Rattle.ec_database.specs.kept.Rows.{try_of, try_at, tries_in, AreRows}
 
 -- LISTS BY A FUNCTION OF THE INDEX
 

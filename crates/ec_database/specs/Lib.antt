@@ -5,8 +5,8 @@ pub mod Versions
 pub mod Snapshots
 pub mod SnapshotPhases
 pub mod Tries
-pub mod Rows
 pub mod Auditing
 pub mod Standing
 pub mod Laws
 pub mod Joined
+pub mod kept

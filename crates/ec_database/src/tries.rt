@@ -32,7 +32,7 @@ pub struct TryView<'a> {
 impl<'a> Model for TryView<'a> {
     ghost use Rattle.std.specs.Prelude.{take, drop};
     ghost use Rattle.ec_database.specs.Tries.{AcceptedTry};
-    ghost use Rattle.ec_database.specs.Rows.{AreWithin};
+    ghost use Rattle.ec_database.specs.kept.Rows.{AreWithin};
 
     ghost Value = { AcceptedTry };
 
@@ -111,7 +111,7 @@ pub struct AcceptedTries {
 
 impl Model for AcceptedTries {
     ghost use Rattle.ec_database.specs.Tries.{TryTable};
-    ghost use Rattle.ec_database.specs.Rows.{tries_in, AreRows};
+    ghost use Rattle.ec_database.specs.kept.Rows.{tries_in, AreRows};
 
     ghost Value = { TryTable };
 

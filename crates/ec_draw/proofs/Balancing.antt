@@ -21,7 +21,7 @@ use Rattle.ec_draw.specs.declared.window.Window.{Window}
 use Rattle.ec_draw.specs.Following.{follows}
 use Rattle.ec_draw.specs.Balances.{BalanceState, IsSmall, left_by, units_left_after, units_left_at_moments, moments, pad}
 use Rattle.ec_draw.specs.Balances.{list_if_moment}
-use Rattle.ec_draw.specs.LeftOut.{left_is, lefts_many, pad_more, small_before, told_alike}
+use Rattle.ec_draw.specs.kept.LeftOut.{left_is, lefts_many, pad_more, small_before, told_alike}
 
 -- FOLLOWING
 

@@ -21,7 +21,7 @@ use Rattle.ec_database.specs.Shapes.{Database}
 use Rattle.ec_database.specs.Following.{is_on, writes, try_rule, write_rule, database_rules}
 use Rattle.ec_database.specs.Tries.{AcceptedTry, accepted_of, ended_at}
 use Rattle.ec_draw.specs.Shades.{ShadeModel, begins_list, list_start, shade_at, shades_in, span_at}
-use Rattle.ec_draw.specs.LeftOut.{concerns_is}
+use Rattle.ec_draw.specs.kept.LeftOut.{concerns_is}
 use Rattle.ec_draw.specs.Laws.{BeginsList, ShadesBeginLists}
 use Rattle.ec_draw.proofs.Stepping.{long_past}
 use Rattle.ec_draw.proofs.Telling.{get_either, shade_of}

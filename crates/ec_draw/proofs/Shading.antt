@@ -23,7 +23,7 @@ use Rattle.ec_draw.specs.Shades.{starts_after, shade, shade_at, shades_in, shade
 use Rattle.ec_draw.specs.Shades.{group_shades, is_in}
 use Rattle.ec_heading.specs.declared.group.Group.TheVariants as groups
 use Rattle.ec_draw.specs.Following.{follows}
-use Rattle.ec_draw.specs.LeftOut.{concerns_is}
+use Rattle.ec_draw.specs.kept.LeftOut.{concerns_is}
 use Rattle.ec_draw.proofs.Filtering.{filter_behind}
 use Rattle.ec_draw.proofs.Balancing.{follow_yes}
 

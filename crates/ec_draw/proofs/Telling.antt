@@ -33,7 +33,7 @@ use Rattle.ec_draw.specs.declared.window.Window.{Window}
 use Rattle.ec_draw.specs.declared.arrow.Move.{Move}
 use Rattle.ec_draw.specs.declared.arrow.Move.TheVariants as moves
 use Rattle.ec_draw.specs.Balances.{units_left_after, units_left_at_moments, list_if_moment}
-use Rattle.ec_draw.specs.LeftOut.{told_long}
+use Rattle.ec_draw.specs.kept.LeftOut.{told_long}
 use Rattle.ec_draw.specs.Shades.{ShadeModel, shade, shade_at, shades_in, span_at}
 use Rattle.ec_draw.specs.Arrows.{arrow_of, is_move, move_position, places}
 use Rattle.ec_draw.specs.Laws.{BalanceCurvesAreUnitsLeft, UnitsLeftAreBalances, ShadesEndTries}

@@ -20,7 +20,7 @@ use Rattle.ec_draw.specs.declared.finding.GroupState.TheVariants as finds
 use Rattle.ec_draw.specs.Balances.{BalanceState, BalanceStatesOn}
 use Rattle.ec_draw.specs.Shades.{TriesModel, TriesOn}
 use Rattle.ec_draw.specs.Arrows.{MovesModel, MovesOn}
-use Rattle.ec_draw.specs.Findings.{FindsFor, EachFinds, BothOn, group_of, FindsOn}
+use Rattle.ec_draw.specs.kept.Findings.{FindsFor, EachFinds, BothOn, group_of, FindsOn}
 
 -- ONE ENTRY
 

@@ -7,8 +7,7 @@ pub mod Following
 pub mod Balances
 pub mod Shades
 pub mod Arrows
-pub mod Findings
-pub mod LeftOut
 pub mod Pictures
 pub mod Chosen
 pub mod Laws
+pub mod kept

@@ -167,7 +167,7 @@ pub(crate) struct BothState<'a> {
 }
 
 impl<'a> Audit for BothState<'a> {
-    ghost use Rattle.ec_draw.specs.Findings.{BothOn};
+    ghost use Rattle.ec_draw.specs.kept.Findings.{BothOn};
 
     ghost represents = { BothOn };
 

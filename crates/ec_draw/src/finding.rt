@@ -9,8 +9,8 @@ ghost use Rattle.ec_draw.specs.Arrows.{arrows, group_arrows};
 ghost use Rattle.ec_draw.specs.Balances.{balance_curve, balance_lines, group_line, curve_if};
 ghost use Rattle.ec_draw.specs.Curves.{curve_model};
 ghost use Rattle.ec_draw.specs.Following.{follows};
-ghost use Rattle.ec_draw.specs.Findings.{AddsGroup, BothFor, BalanceStateFor, EachFinds, FindsFor};
-ghost use Rattle.ec_draw.specs.Findings.{MovesFor, TriesFor};
+ghost use Rattle.ec_draw.specs.kept.Findings.{AddsGroup, BothFor, BalanceStateFor, EachFinds, FindsFor};
+ghost use Rattle.ec_draw.specs.kept.Findings.{MovesFor, TriesFor};
 ghost use Rattle.ec_draw.specs.Shades.{group_shades, shade_model, shades};
 
 use crate::arrow::{Moves, add_buffer};
@@ -73,7 +73,7 @@ impl<'a> GroupState<'a> {
 
 impl<'a> Audit for GroupState<'a> {
     ghost use Rattle.ec_draw.specs.Following.{follows};
-    ghost use Rattle.ec_draw.specs.Findings.{FindsOn};
+    ghost use Rattle.ec_draw.specs.kept.Findings.{FindsOn};
 
     ghost represents = { FindsOn };
 
@@ -89,8 +89,8 @@ impl<'a> Audit for GroupState<'a> {
 
 impl<'a> GroupAudit for GroupState<'a> {
     ghost use Rattle.ec_draw.specs.Following.{follows};
-    ghost use Rattle.ec_draw.specs.Findings.{group_of};
-    ghost use Rattle.ec_draw.specs.LeftOut.{finds_off, finds_stay};
+    ghost use Rattle.ec_draw.specs.kept.Findings.{group_of};
+    ghost use Rattle.ec_draw.specs.kept.LeftOut.{finds_off, finds_stay};
 
     ghost group = { group_of };
 

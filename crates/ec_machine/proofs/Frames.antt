@@ -9,7 +9,7 @@ use Rattle.ec_machine.specs.declared.command.Command.TheOpen as layer
 use Rattle.ec_machine.specs.declared.command.Command.TheFolds.{fold-roll-Command}
 use Rattle.ec_machine.specs.Limits.{is_sound_one, sound_step}
 use Rattle.ec_machine.specs.Unrolled.{unroll, unroll_command, repeated, written_step}
-use Rattle.ec_machine.specs.Left.{frame_commands, left_of, FrameFits, FramesFit}
+use Rattle.ec_machine.specs.kept.Left.{frame_commands, left_of, FrameFits, FramesFit}
 
 pub append_none : (xs : List Command) → xs ++ [] ≡ xs
 append_none [] = refl

@@ -1,6 +1,5 @@
 pub mod Follows
 pub mod Laws
-pub mod Left
 pub mod Limits
 pub mod Outcomes
 pub mod Programs
@@ -11,3 +10,4 @@ pub mod Tasks
 pub mod Values
 pub mod Unrolled
 pub mod Joined
+pub mod kept

@@ -2,7 +2,7 @@
 ghost use Rattle.std.specs.Prelude.{◌≡◌, ◌+◌, ◌≤◌, ◌<◌, ◌++◌, ◌∷◌, [], MatchOption, IfSome, IfNone, length, true};
 ghost use Rattle.ec_machine.specs.Limits.{nesting, nesting_one, is_sound, is_sound_one};
 ghost use Rattle.ec_machine.specs.Unrolled.{unroll, unroll_command, repeated, is_single};
-ghost use Rattle.ec_machine.specs.Left.{left_of, frame_commands, FrameFits, FramesFit};
+ghost use Rattle.ec_machine.specs.kept.Left.{left_of, frame_commands, FrameFits, FramesFit};
 
 use crate::Command;
 use arrayvec::ArrayVec;
@@ -108,7 +108,7 @@ impl<'a> Model for Remaining<'a> {
 
     ghost coded = { Prim.hlevel (codes, command.the_row.coded) };
 
-    ghost use Rattle.ec_machine.specs.Left.{left_of, FramesFit};
+    ghost use Rattle.ec_machine.specs.kept.Left.{left_of, FramesFit};
 
     ghost view = { λ r. left_of r.frames.items };
 

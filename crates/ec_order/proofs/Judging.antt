@@ -11,7 +11,7 @@ use Rattle.ec_core.specs.declared.act.Act.TheVariants.{Advance, Read, Await, Tic
 use Rattle.ec_core.specs.declared.act.Reply.TheVariants.{Number}
 use Rattle.ec_core.specs.declared.act.Entry.{Entry}
 use Rattle.ec_core.specs.Acceptance.{IsAccepted}
-use Rattle.ec_core.specs.Fields.{IsNamed}
+use Rattle.ec_core.specs.kept.Fields.{IsNamed}
 use Rattle.ec_core.proofs.shared.Places.{get_set}
 use Rattle.ec_numbers.specs.Numbers.{NumberListModel}
 use Rattle.ec_order.specs.declared.call.Call.{Call}

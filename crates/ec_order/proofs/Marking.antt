@@ -4,7 +4,7 @@ use Rattle.std.specs.List.{flat_map}
 use Rattle.std.proofs.lemmas.Grind.{flat_map-append}
 use Rattle.std.proofs.lemmas.Nat.{leading_top}
 use Rattle.std.proofs.Math.Nat.{div-div-eq-div-mul}
-use Rattle.ec_order.specs.BitVec.{low_bits, bits_below_highest, bits_of_word, bits_of_words, IsBitVec}
+use Rattle.ec_order.specs.kept.BitVec.{low_bits, bits_below_highest, bits_of_word, bits_of_words, IsBitVec}
 
 -- A WORD
 

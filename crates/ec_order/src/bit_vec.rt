@@ -1,6 +1,6 @@
 //! A list of marks of one bit each.
 ghost use Rattle.std.specs.Prelude.{◌≡◌, ◌+◌, ◌^◌, ◌<◌, ◌≤◌, [], ◌∷◌, ◌++◌, drop, length, slice_get, OnOk};
-ghost use Rattle.ec_order.specs.BitVec.{low_bits, bits_of_word, bits_of_words, IsBitVec};
+ghost use Rattle.ec_order.specs.kept.BitVec.{low_bits, bits_of_word, bits_of_words, IsBitVec};
 
 use std::alloc::{AllocError, Global};
 use std::marker::Model;
@@ -22,7 +22,7 @@ pub(crate) struct BitVec {
 
 impl Model for BitVec {
     ghost use Rattle.std.specs.Prelude.{Bool, List};
-    ghost use Rattle.ec_order.specs.BitVec.{bits_of_words, IsBitVec};
+    ghost use Rattle.ec_order.specs.kept.BitVec.{bits_of_words, IsBitVec};
 
     ghost Value = { List Bool };
 
@@ -121,7 +121,7 @@ pub(crate) struct BitIter<'a> {
 
 impl<'a> Model for BitIter<'a> {
     ghost use Rattle.std.specs.Prelude.{◌<◌, Bool, List, ◌++◌, drop};
-    ghost use Rattle.ec_order.specs.BitVec.{low_bits, bits_of_words, IsBitVec};
+    ghost use Rattle.ec_order.specs.kept.BitVec.{low_bits, bits_of_words, IsBitVec};
 
     ghost Value = { List Bool };
 

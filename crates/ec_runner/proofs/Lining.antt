@@ -5,14 +5,14 @@ use Rattle.std.proofs.lemmas.Bool.Decides.{nat_tests}
 use Rattle.std.proofs.lemmas.Option.{slice_get_within}
 use Rattle.std.specs.Option.{option_map_or}
 use Rattle.std.specs.List.{insert, list_any}
-use Rattle.ec_core.specs.Fields.{map_at}
+use Rattle.ec_core.specs.kept.Fields.{map_at}
 use Rattle.std.proofs.Math.ListN.{length-set}
 use Rattle.ec_core.proofs.shared.Places.{get_set}
 use Rattle.ec_runner.specs.declared.wait_queue.Waiter.{Waiter}
 use Rattle.ec_runner.specs.declared.worker_state.WorkerState.{WorkerState}
 use Rattle.ec_runner.specs.declared.worker_state.WorkerState.TheVariants.{Gone, Running, Waiting}
 use Rattle.ec_runner.specs.WorkerStates.{is_waiting, state_at_total}
-use Rattle.ec_runner.specs.WaitQueues.{comes_before, Each, IsAmong, AreInOrder, insert_waiter, insertion_index, without, first_ready, remove_waiter, waits_on, number_on, IsWaitQueue, AreWaitQueues}
+use Rattle.ec_runner.specs.kept.WaitQueues.{comes_before, Each, IsAmong, AreInOrder, insert_waiter, insertion_index, without, first_ready, remove_waiter, waits_on, number_on, IsWaitQueue, AreWaitQueues}
 use Rattle.ec_semaphore.proofs.shared.Implying.{fits_or as or_right}
 
 -- ORDER

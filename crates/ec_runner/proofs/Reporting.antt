@@ -14,7 +14,7 @@ use Rattle.ec_machine.specs.Standing.{machine_outcome}
 use Rattle.ec_runner.specs.declared.report.Report.{Report}
 use Rattle.ec_runner.specs.declared.report.SimFault.{SimFault}
 use Rattle.ec_runner.specs.declared.report.SimFault.TheVariants.{Ended, Memory}
-use Rattle.ec_runner.specs.Machines.{AreMachines, IsPlayed, IsPlayFault, PlaysAll}
+use Rattle.ec_runner.specs.kept.Machines.{AreMachines, IsPlayed, IsPlayFault, PlaysAll}
 use Rattle.ec_runner.specs.Reported.{AreLogs, AreOutcomes, IsReport, IsSimFault}
 use Rattle.ec_runner.specs.Schedules.{Turn, outcome_after}
 

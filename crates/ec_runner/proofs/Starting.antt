@@ -6,7 +6,7 @@ use Rattle.ec_machine.specs.declared.command.Command.{Command}
 use Rattle.ec_machine.specs.declared.machine.Machine.{Machine}
 use Rattle.ec_machine.specs.Follows.{program_at}
 use Rattle.ec_machine.specs.Standing.{StandsFor, is_refused}
-use Rattle.ec_runner.specs.Machines.{IsMachineOf, AreMachines}
+use Rattle.ec_runner.specs.kept.Machines.{IsMachineOf, AreMachines}
 
 -- an element of a list with one more at its end
 pub get_push : {X : Type 0} (xs : List X) (y : X) (i : ℕ) (x : X) → slice_get (xs ++ y ∷ []) i ≡ Some x → (slice_get xs i ≡ Some x) ⊎ ((i ≡ length xs) × (y ≡ x))

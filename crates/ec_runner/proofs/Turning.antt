@@ -17,7 +17,7 @@ use Rattle.ec_machine.specs.Outcomes.{is_running, is_external, outcome_after_ref
 use Rattle.ec_machine.specs.Runs.{next_act, outcome_of}
 use Rattle.ec_machine.specs.Standing.{StandsFor, machine_outcome, is_refused}
 use Rattle.ec_machine.specs.Steps.{own}
-use Rattle.ec_runner.specs.Machines.{IsMachineOf, IsMadeByTurns, HasTurn, MayTakeTurn, AreMachines, Takes, HasPlayed, IsPlayed, PlaysOne}
+use Rattle.ec_runner.specs.kept.Machines.{IsMachineOf, IsMadeByTurns, HasTurn, MayTakeTurn, AreMachines, Takes, HasPlayed, IsPlayed, PlaysOne}
 use Rattle.ec_runner.specs.Schedules.{Turn, entries_of, refusal_in_turns, ended_by, outcome_after, with_answer, refusal_or}
 use Rattle.ec_machine.proofs.Going.{running_is}
 use Rattle.std.specs.Prelude.{slice_get, slice_set}

@@ -16,9 +16,9 @@ use Rattle.ec_runner.specs.declared.worker_state.WorkerState.{WorkerState}
 use Rattle.ec_runner.specs.declared.worker_state.WorkerState.TheVariants.{Gone, Running, Waiting}
 use Rattle.ec_runner.specs.declared.wait.Wait.{Wait}
 use Rattle.ec_runner.specs.WorkerStates.{is_waiting, state_at_total, worker_state, states_after_act}
-use Rattle.ec_runner.specs.WaitQueues.{waits_on}
+use Rattle.ec_runner.specs.kept.WaitQueues.{waits_on}
 use Rattle.ec_runner.specs.BoardModel.{BoardModel, after_entry, wait_of}
-use Rattle.ec_runner.specs.Holds.{is_asleep, is_awaited, is_woken, waiting_for, park, after_hold, is_sleep, IsMade, IsNext}
+use Rattle.ec_runner.specs.kept.Holds.{is_asleep, is_awaited, is_woken, waiting_for, park, after_hold, is_sleep, IsMade, IsNext}
 
 below : (n k : ℕ) → (n == k) ≡ false → k < n + 1 → k < n
 below n k e h = grind (arith, nat_tests)

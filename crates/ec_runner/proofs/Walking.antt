@@ -15,7 +15,7 @@ use Rattle.ec_core.proofs.shared.Answering.{allowed}
 use Rattle.ec_machine.specs.Steps.{own}
 use Rattle.ec_machine.proofs.shared.OwnSteps.{slice_here as get_at, own_append}
 use Rattle.ec_runner.specs.declared.summary.Summary.{Summary}
-use Rattle.ec_runner.specs.LogComparison.{AreComparedSoFar, AreLogsOf, IsUnfinished, IsLogMismatch}
+use Rattle.ec_runner.specs.kept.LogComparison.{AreComparedSoFar, AreLogsOf, IsUnfinished, IsLogMismatch}
 
 -- what holds in both cases
 pub then_match : {X : Type 0} {P P' : Type 0} {Q Q' : X → Type 0} → (o : Option X) → (P → P') → ((x : X) → Q x → Q' x) → MatchOption o P Q → MatchOption o P' Q'

@@ -1,14 +1,11 @@
 pub mod WorkerStates
-pub mod WaitQueues
 pub mod BoardModel
 pub mod Works
-pub mod Holds
 pub mod WorkPromises
 pub mod RunReports
-pub mod LogComparison
 pub mod Fits
 pub mod RunFaults
 pub mod Schedules
 pub mod Reported
-pub mod Machines
 pub mod ScheduleLaws
+pub mod kept

@@ -63,7 +63,7 @@ impl Model for Board {
 ghost use Rattle.ec_runner.specs.BoardModel.{AreWaiters, IsBoardFault, wait_of, with_worker_state, after_entry, is_stopped, has_left, answer_on};
 
 impl Board {
-    ghost use Rattle.ec_runner.specs.Holds.{is_asleep, is_awaited};
+    ghost use Rattle.ec_runner.specs.kept.Holds.{is_asleep, is_awaited};
 
     /// Makes a board with an empty run on these declarations. Every declared worker is active, and
     /// nobody waits. If there is no memory, the declarations are dropped.

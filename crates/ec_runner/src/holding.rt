@@ -4,7 +4,7 @@ ghost use Rattle.ec_core.specs.Calls.{is_pending};
 ghost use Rattle.ec_runner.specs.declared.worker_state.WorkerState.TheVariants.{Gone};
 ghost use Rattle.ec_runner.specs.WorkerStates.{is_active, is_waiting, worker_state};
 ghost use Rattle.ec_runner.specs.BoardModel.{BoardModel, with_worker_state};
-ghost use Rattle.ec_runner.specs.Holds.{is_asleep, is_awaited, is_sleep, is_woken, park, AreWoken, IsNext, FitsAct};
+ghost use Rattle.ec_runner.specs.kept.Holds.{is_asleep, is_awaited, is_sleep, is_woken, park, AreWoken, IsNext, FitsAct};
 
 use crate::board::{Board, BoardFault};
 use crate::ending::nth_worker;

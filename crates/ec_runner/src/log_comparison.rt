@@ -2,7 +2,7 @@
 ghost use Rattle.std.specs.Prelude.{◌≡◌, ◌≢◌, ◌<◌, ◌≤◌, ◌↔◌, ℕ, false, List, [], ◌∷◌, ◌++◌, length, slice_get, slice_index, Some, IsTrue, MatchOption};
 ghost use Rattle.ec_core.specs.declared.act.Entry.{Entry};
 ghost use Rattle.ec_runner.specs.declared.summary.Summary.{Summary};
-ghost use Rattle.ec_runner.specs.LogComparison.{AreComparedSoFar, AreLogsOf, IsUnfinished, IsLogMismatch};
+ghost use Rattle.ec_runner.specs.kept.LogComparison.{AreComparedSoFar, AreLogsOf, IsUnfinished, IsLogMismatch};
 
 use crate::ending::nth_worker;
 use crate::summary::Summary;

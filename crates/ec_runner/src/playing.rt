@@ -2,7 +2,7 @@
 ghost use Rattle.std.specs.Prelude.{◌≡◌, ◌<◌, ◌∷◌, [], List, length, reverse, true};
 ghost use Rattle.ec_count.specs.Tables.{Tables};
 ghost use Rattle.ec_machine.specs.declared.command.Command.{Command};
-ghost use Rattle.ec_runner.specs.Machines.{AreMachines, IsMachineOf, IsPlayed, IsMadeByTurns, PlaysAll, PlaysOne, Takes};
+ghost use Rattle.ec_runner.specs.kept.Machines.{AreMachines, IsMachineOf, IsPlayed, IsMadeByTurns, PlaysAll, PlaysOne, Takes};
 ghost use Rattle.std.specs.List.{All};
 ghost use Rattle.ec_runner.specs.Schedules.{Turn};
 

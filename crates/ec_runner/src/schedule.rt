@@ -6,7 +6,7 @@ ghost use Rattle.ec_core.specs.declared.act.Entry.{Entry};
 ghost use Rattle.ec_machine.specs.declared.command.Command.{Command};
 ghost use Rattle.ec_machine.specs.declared.machine.Machine.{Machine};
 ghost use Rattle.ec_machine.specs.Standing.{machine_outcome};
-ghost use Rattle.ec_runner.specs.Machines.{AreMachines, IsPlayFault};
+ghost use Rattle.ec_runner.specs.kept.Machines.{AreMachines, IsPlayFault};
 ghost use Rattle.ec_runner.specs.Reported.{AreLogs, IsReport, IsSimFault};
 
 use crate::logs::logs_of;

@@ -7,7 +7,7 @@ ghost use Rattle.ec_machine.specs.declared.outcome.Outcome.TheVariants.{Memory, 
 ghost use Rattle.ec_machine.specs.Outcomes.{is_running, is_external, outcome_after_refusal};
 ghost use Rattle.ec_machine.specs.Standing.{due_act, machine_outcome};
 ghost use Rattle.ec_runner.specs.declared.summary.LastRequest.{LastRequest};
-ghost use Rattle.ec_runner.specs.Holds.{FitsAct, IsTaken, is_sleep};
+ghost use Rattle.ec_runner.specs.kept.Holds.{FitsAct, IsTaken, is_sleep};
 ghost use Rattle.ec_runner.specs.WorkPromises.{IsFor, AreFor};
 ghost use Rattle.ec_runner.specs.Works.{IsStop, Works, HasHad, IsAsked, IsSummaryOf};
 

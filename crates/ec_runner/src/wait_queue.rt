@@ -1,6 +1,6 @@
 //! The waiters of one eventcount.
 ghost use Rattle.std.specs.Prelude.{◌≡◌, ◌==◌, ◌<◌, ◌≤◌, [], length, drop, is_some, if◌then◌else◌, Some, IfSome};
-ghost use Rattle.ec_runner.specs.WaitQueues.{comes_before, insertion_index, insert_waiter, without, first_ready};
+ghost use Rattle.ec_runner.specs.kept.WaitQueues.{comes_before, insertion_index, insert_waiter, without, first_ready};
 
 use arrayvec::ArrayVec;
 use ec_count::WorkerId;

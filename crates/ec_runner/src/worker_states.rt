@@ -3,8 +3,8 @@ ghost use Rattle.std.specs.Prelude.{◌≡◌, ℕ, ◌<◌, ◌≤◌, true, fa
 ghost use Rattle.std.specs.List.{list_any};
 ghost use Rattle.ec_runner.specs.declared.worker_state.WorkerState.TheVariants.{Gone, Running, Waiting};
 ghost use Rattle.ec_runner.specs.WorkerStates.{is_active, is_running, is_waiting, is_deadlocked, every_active_waits, state_at_total, states_after_act};
-ghost use Rattle.ec_runner.specs.WaitQueues.{LetsOneGo, remove_waiter, insert_waiter, first_ready, waits_on};
-ghost use Rattle.ec_core.specs.Fields.{map_at};
+ghost use Rattle.ec_runner.specs.kept.WaitQueues.{LetsOneGo, remove_waiter, insert_waiter, first_ready, waits_on};
+ghost use Rattle.ec_core.specs.kept.Fields.{map_at};
 ghost use Rattle.ec_runner.specs.declared.wait_queue.Waiter.{Waiter};
 ghost use Rattle.ec_runner.specs.BoardModel.{past_of};
 ghost use Rattle.ec_core.specs.Acceptance.{names_unknown_object};
@@ -29,7 +29,7 @@ impl Model for WorkerStates {
 
     ghost Value = { List WorkerState };
 
-    ghost use Rattle.ec_runner.specs.WaitQueues.{AreWaitQueues};
+    ghost use Rattle.ec_runner.specs.kept.WaitQueues.{AreWaitQueues};
 
     ghost view = { λ s. s.table };
 

@@ -18,7 +18,7 @@ use Rattle.ec_script.specs.declared.block_item.BlockItem.TheVariants.{Do, Write,
 use Rattle.ec_script.specs.declared.draft.OpenRepeat.{OpenRepeat}
 use Rattle.ec_script.specs.DraftModel.{DraftModel, draft_with_command, draft_with_repeat, draft_with_end}
 use Rattle.ec_script.specs.Flat.{flat, flat_one, flat_step, all_of, is_plain, plain_step}
-use Rattle.ec_script.specs.Inner.{begun, inner_command_count, IsPart, IsOpen, AreOpen, IsDraft}
+use Rattle.ec_script.specs.kept.Inner.{begun, inner_command_count, IsPart, IsOpen, AreOpen, IsDraft}
 
 abbrev pub view_of : List OpenRepeat → List Command → ℕ → DraftModel
 view_of os cs n = record { block_items = begun os ++ flat cs; depth = length os; is_empty = length cs == 0; commands = n }

@@ -5,7 +5,6 @@ pub mod Flat
 pub mod Objects
 pub mod BlockItems
 pub mod DraftModel
-pub mod Inner
 pub mod Kinds
 pub mod Pairs
 pub mod ScriptModel
@@ -21,3 +20,4 @@ pub mod Placed
 pub mod Holding
 pub mod Endings
 pub mod Counted
+pub mod kept

@@ -36,7 +36,7 @@ impl Model for Draft {
     ghost use Rattle.ec_script.specs.contracts.block_item.BlockItem as item;
     ghost use Rattle.ec_script.specs.DraftModel.{DraftModel};
     ghost use Rattle.ec_script.specs.Flat.{flat};
-    ghost use Rattle.ec_script.specs.Inner.{begun, IsDraft};
+    ghost use Rattle.ec_script.specs.kept.Inner.{begun, IsDraft};
 
     ghost Value = { DraftModel };
 

@@ -17,8 +17,8 @@ use Rattle.ec_text.proofs.shared.NumberLemmas.{guarded}
 use Rattle.ec_heading.specs.EntryWords.{NameTable, event_in, sequencer_in, cell_in_word}
 use Rattle.ec_heading.specs.Lists.{worker_in}
 use Rattle.ec_trace.specs.Entries.{◌>>=◌, act_alone, act_on, act_with, parse_reply, entry_by, entry_in, entry_of}
-use Rattle.ec_trace.specs.LineCache.{with_reply, with_value, with_both, has_value, with_value_word, HasPrefix, HasNumber, EndsIn, SpellsAs, IsCachedPrefix, IsLineCache}
-use Rattle.ec_trace.specs.PackedBytes.{key_bytes}
+use Rattle.ec_trace.specs.kept.LineCache.{with_reply, with_value, with_both, has_value, with_value_word, HasPrefix, HasNumber, EndsIn, SpellsAs, IsCachedPrefix, IsLineCache}
+use Rattle.ec_trace.specs.kept.PackedBytes.{key_bytes}
 use Rattle.ec_trace.specs.declared.packed_bytes.PackedBytes.{PackedBytes}
 use Rattle.ec_trace.specs.declared.line_cache.CachedPrefix.{CachedPrefix}
 

@@ -4,7 +4,7 @@ use Rattle.std.proofs.lemmas.List.{take-append-drop, take-take, drop-take, drop-
 use Rattle.std.proofs.lemmas.Bool.{cases_lt}
 use Rattle.std.proofs.lemmas.Nat.{le_bytes_4, le_bytes_8}
 use Rattle.std.specs.Int.{w32, w64, from_le_bytes}
-use Rattle.ec_trace.specs.PackedBytes.{eight_of, four_of, key_bytes}
+use Rattle.ec_trace.specs.kept.PackedBytes.{eight_of, four_of, key_bytes}
 use Rattle.ec_trace.specs.declared.packed_bytes.PackedBytes.{PackedBytes}
 
 -- a byte, and those after it

@@ -5,7 +5,7 @@ use Rattle.std.specs.Borrow.{Bor}
 use Rattle.ec_count.specs.declared.target.Target.{Target}
 use Rattle.ec_count.specs.declared.target.Target.TheVariants.{Worker, Event, Sequencer, Cells, Group}
 use Rattle.ec_heading.specs.Spelling.{NameTable, cell_word}
-use Rattle.ec_trace.specs.WordTables.{Spells, word_at, cell_at, cell_name_bytes, with_block}
+use Rattle.ec_trace.specs.kept.WordTables.{Spells, word_at, cell_at, cell_name_bytes, with_block}
 use Rattle.ec_trace.specs.declared.spell.WordTable.{WordTable}
 use Rattle.ec_trace.specs.declared.spell.CellName.{CellName}
 

@@ -1,8 +1,5 @@
 pub mod Grammar
-pub mod WordTables
 pub mod Entries
-pub mod PackedBytes
-pub mod LineCache
 pub mod TraceModel
 pub mod Stages
 pub mod Step
@@ -12,3 +9,4 @@ pub mod Reading
 pub mod ReadingLaws
 pub mod FirstFault
 pub mod EntryLines
+pub mod kept

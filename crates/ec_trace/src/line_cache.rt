@@ -6,8 +6,8 @@
 //! contains the bytes, so no loop compares them.
 ghost use Rattle.std.specs.Prelude.{◌≡◌, ℕ, List, Some, IfSome};
 ghost use Rattle.ec_trace.specs.Entries.{entry_of};
-ghost use Rattle.ec_trace.specs.LineCache.{HasPrefix, HasNumber, EndsIn, SpellsAs, IsCachedPrefix, IsLineCache, has_value, with_value};
-ghost use Rattle.ec_trace.specs.PackedBytes.{key_bytes};
+ghost use Rattle.ec_trace.specs.kept.LineCache.{HasPrefix, HasNumber, EndsIn, SpellsAs, IsCachedPrefix, IsLineCache, has_value, with_value};
+ghost use Rattle.ec_trace.specs.kept.PackedBytes.{key_bytes};
 ghost use Rattle.ec_heading.specs.EntryWords.{NameTable};
 
 use crate::entry::read_entry;

@@ -3,7 +3,7 @@
 //! A key is a few numbers that contain all bytes of a text. So two texts are compared by few
 //! comparisons of numbers, with no loop and no call.
 ghost use Rattle.std.specs.Prelude.{◌≡◌, ◌+◌, ◌≤◌, ◌<◌, IfSome, IsTrue, length, take, drop};
-ghost use Rattle.ec_trace.specs.PackedBytes.{eight_of, four_of};
+ghost use Rattle.ec_trace.specs.kept.PackedBytes.{eight_of, four_of};
 
 /// The key of a text of 4 to 32 bytes: its length, and words of eight bytes of it, or of four if it
 /// has fewer than eight.
@@ -20,7 +20,7 @@ pub(crate) struct PackedBytes {
 }
 
 impl PackedBytes {
-    ghost use Rattle.ec_trace.specs.PackedBytes.{key_bytes};
+    ghost use Rattle.ec_trace.specs.kept.PackedBytes.{key_bytes};
 
     /// Returns the key of a text of 4 to 32 bytes; `None` for any other.
     #[inline(always)]

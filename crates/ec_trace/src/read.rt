@@ -3,7 +3,7 @@ ghost use Rattle.std.specs.Prelude.{◌≡◌, ℕ, List, [], Some, None, IfSome
 ghost use Rattle.ec_core.specs.declared.act.Entry.{Entry};
 ghost use Rattle.ec_heading.specs.Versions.{can_spell};
 ghost use Rattle.ec_trace.specs.Entries.{entry_of};
-ghost use Rattle.ec_trace.specs.LineCache.{IsLineCache};
+ghost use Rattle.ec_trace.specs.kept.LineCache.{IsLineCache};
 ghost use Rattle.ec_trace.specs.EntrySinks.{history_of};
 ghost use Rattle.ec_trace.specs.Outcome.{Returns, fault_at};
 ghost use Rattle.ec_trace.specs.Reading.{IsOpened, TakesLine, Recounts};

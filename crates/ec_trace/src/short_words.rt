@@ -1,7 +1,7 @@
 //! Short words as inline texts, which are written fast.
 ghost use Rattle.std.specs.Prelude.{◌≡◌, ℕ, ◌<◌, ◌==◌, [], length, if◌then◌else◌};
 ghost use Rattle.std.specs.Option.{option_map_or};
-ghost use Rattle.ec_trace.specs.WordTables.{Spells, SpellsShort, IsShortOf, short_at, word_at, cell_at, cell_name_bytes};
+ghost use Rattle.ec_trace.specs.kept.WordTables.{Spells, SpellsShort, IsShortOf, short_at, word_at, cell_at, cell_name_bytes};
 ghost use Rattle.ec_heading.specs.Spelling.{NameTable};
 
 use crate::spell::{CellName, WordTable};

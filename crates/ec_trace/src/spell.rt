@@ -1,6 +1,6 @@
 //! Tables of the words for workers and objects.
 ghost use Rattle.std.specs.Prelude.{◌≡◌, ℕ, ◌+◌, ◌<◌, ◌-◌, ◌==◌, ◌&&◌, [], ◌∷◌, ◌++◌, List, length, Some, slice_get, nat_le, nat_lt, if◌then◌else◌};
-ghost use Rattle.ec_trace.specs.WordTables.{Spells, word_at, cell_at, cell_name_bytes, with_block, short_at};
+ghost use Rattle.ec_trace.specs.kept.WordTables.{Spells, word_at, cell_at, cell_name_bytes, with_block, short_at};
 ghost use Rattle.ec_text.specs.Puts.{Puts};
 ghost use Rattle.ec_heading.specs.Spelling.{NameTable, target_name, cell_word};
 ghost use Rattle.std.specs.Option.{option_map_or};
@@ -70,7 +70,7 @@ impl<'a> Model for Spellings<'a> {
 
     ghost Value = { List (List ℕ × Target) };
 
-    ghost use Rattle.ec_trace.specs.WordTables.{Spells, SpellsShort};
+    ghost use Rattle.ec_trace.specs.kept.WordTables.{Spells, SpellsShort};
 
     ghost view = { λ s. s.vocabulary.now };
 

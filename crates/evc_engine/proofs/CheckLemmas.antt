@@ -21,7 +21,7 @@ use Rattle.ec_trace.specs.declared.fault.TraceFault.TheVariants.{Read, Memory}
 use Rattle.ec_trace.specs.declared.read.TheConstants.{TRACE_MAX}
 use Rattle.evc_engine.specs.declared.status.Status.{Status}
 use Rattle.evc_engine.specs.declared.status.Status.TheVariants as statuses
-use Rattle.evc_engine.specs.Halts.{IsOf, IsReadInto}
+use Rattle.evc_engine.specs.kept.Halts.{IsOf, IsReadInto}
 use Rattle.evc_engine.specs.Notes.{fault_note, fault_status}
 use Rattle.evc_engine.specs.Texts.{linearized_line, placed_line, order_lines, check_text}
 use Rattle.evc_engine.specs.Checks.{Checks, Outputs, Notes, ReadsAs, Writes, text_for, HasLinearization}

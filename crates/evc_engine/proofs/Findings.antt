@@ -22,7 +22,7 @@ use Rattle.ec_heading.specs.declared.group.Group.{Group}
 use Rattle.ec_heading.specs.declared.group.Group.TheVariants as groups
 use Rattle.std.specs.List.{All}
 use Rattle.ec_heading.specs.Groups.{FitsGroup}
-use Rattle.evc_engine.specs.Walks.{EndsFor, EachRepresents, EachEndsFor, group_of, AuditsOn}
+use Rattle.evc_engine.specs.kept.Walks.{EndsFor, EachRepresents, EachEndsFor, group_of, AuditsOn}
 use Rattle.evc_engine.proofs.WalkLemmas.{walk_ends}
 use Rattle.ec_walk.specs.Walks.{AreIndependent, GroupAuditsModel, WalksOn}
 use Rattle.evc_engine.specs.declared.walked.Auditing.{Auditing}

@@ -11,7 +11,7 @@ use Rattle.ec_trace.specs.declared.fault.TraceFault.TheVariants.{Read, Memory}
 use Rattle.ec_trace.specs.declared.read.TheConstants.{TRACE_MAX}
 use Rattle.evc_engine.specs.Audits.{AreAudited, IsStop, AuditWrites, Audits, stop_status, stop_note}
 use Rattle.evc_engine.specs.Checks.{Outputs, Notes}
-use Rattle.evc_engine.specs.Halts.{IsOf}
+use Rattle.evc_engine.specs.kept.Halts.{IsOf}
 use Rattle.evc_engine.specs.Notes.{fault_note, fault_status}
 use Rattle.evc_engine.specs.declared.audit_result.AuditResult.{AuditResult}
 use Rattle.evc_engine.proofs.CheckLemmas.{reads_as}

@@ -15,7 +15,7 @@ use Rattle.ec_walk.specs.Walks.{AreIndependent}
 use Rattle.evc_engine.specs.declared.walked.Auditing.{Auditing}
 use Rattle.evc_engine.specs.declared.walked.Auditing.TheVariants as audits
 use Rattle.evc_engine.specs.declared.walked.BothAudit.{BothAudit}
-use Rattle.evc_engine.specs.Walks.{AuditRepresents, EachRepresents, group_of, BothOn, AuditsOn}
+use Rattle.evc_engine.specs.kept.Walks.{AuditRepresents, EachRepresents, group_of, BothOn, AuditsOn}
 
 -- ONE ENTRY
 

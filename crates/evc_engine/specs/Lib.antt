@@ -4,9 +4,7 @@ pub mod Notes
 pub mod Checks
 pub mod AuditTexts
 pub mod Audits
-pub mod Walks
-pub mod Halts
-pub mod LeftOut
 pub mod AuditLaws
 pub mod Upgrades
 pub mod NoteLaws
+pub mod kept

@@ -4,8 +4,8 @@ ghost use Rattle.ec_core.specs.declared.act.Entry.{Entry};
 ghost use Rattle.ec_heading.specs.HeadingModel.{HeadingModel};
 ghost use Rattle.ec_trace.specs.Reading.{IsOpened};
 ghost use Rattle.ec_text.specs.Puts.{Puts, IsWrittenOut};
-ghost use Rattle.evc_engine.specs.Walks.{EachEndsFor};
-ghost use Rattle.evc_engine.specs.Halts.{IsOf};
+ghost use Rattle.evc_engine.specs.kept.Walks.{EachEndsFor};
+ghost use Rattle.evc_engine.specs.kept.Halts.{IsOf};
 ghost use Rattle.evc_engine.specs.Audits.{AreAudited, IsStop, stop_status, stop_note, Audits};
 
 use crate::audit_result::AuditResult;

@@ -4,7 +4,7 @@ ghost use Rattle.ec_core.specs.declared.act.Entry.{Entry};
 ghost use Rattle.ec_text.specs.Puts.{Puts, IsWrittenOut};
 ghost use Rattle.ec_trace.specs.Reading.{IsOpened};
 ghost use Rattle.evc_engine.specs.Checks.{Checks, Writes};
-ghost use Rattle.evc_engine.specs.Halts.{IsReadInto};
+ghost use Rattle.evc_engine.specs.kept.Halts.{IsReadInto};
 ghost use Rattle.evc_engine.specs.Notes.{fault_note, fault_status};
 
 use crate::notes::report_fault;

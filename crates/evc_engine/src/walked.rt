@@ -7,7 +7,7 @@ ghost use Rattle.ec_heading.specs.Rules.{group_rules};
 ghost use Rattle.ec_heading.specs.declared.group.Group.{Group};
 ghost use Rattle.evc_engine.specs.AuditTexts.{balance_of};
 ghost use Rattle.evc_engine.specs.Audits.{IsAudited};
-ghost use Rattle.evc_engine.specs.Walks.{AuditRepresents, EachRepresents, EndsFor};
+ghost use Rattle.evc_engine.specs.kept.Walks.{AuditRepresents, EachRepresents, EndsFor};
 
 use crate::audit_result::AuditResult;
 use ec_buffer::DeliveryAudit;
@@ -52,7 +52,7 @@ impl<'a> BothAudit<'a> {
 }
 
 impl<'a> Audit for BothAudit<'a> {
-    ghost use Rattle.evc_engine.specs.Walks.{BothOn};
+    ghost use Rattle.evc_engine.specs.kept.Walks.{BothOn};
 
     ghost represents = { BothOn };
 
@@ -121,7 +121,7 @@ impl<'a> Auditing<'a> {
 }
 
 impl<'a> Audit for Auditing<'a> {
-    ghost use Rattle.evc_engine.specs.Walks.{AuditsOn};
+    ghost use Rattle.evc_engine.specs.kept.Walks.{AuditsOn};
 
     ghost represents = { AuditsOn };
 
@@ -137,8 +137,8 @@ impl<'a> Audit for Auditing<'a> {
 }
 
 impl<'a> GroupAudit for Auditing<'a> {
-    ghost use Rattle.evc_engine.specs.Walks.{group_of};
-    ghost use Rattle.evc_engine.specs.LeftOut.{audits_off, audits_stay};
+    ghost use Rattle.evc_engine.specs.kept.Walks.{group_of};
+    ghost use Rattle.evc_engine.specs.kept.LeftOut.{audits_off, audits_stay};
 
     ghost group = { group_of };
 

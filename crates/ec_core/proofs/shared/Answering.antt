@@ -22,7 +22,7 @@ use Rattle.ec_core.specs.Acceptance.{reply_of, answer_of, refusal_of, refused_or
 use Rattle.ec_core.specs.Calls.{is_go}
 use Rattle.ec_core.specs.Standing.{State, Represents, count_at, call_progress, progress_of}
 use Rattle.ec_core.specs.Progress.{Progress, RoundSoFar}
-use Rattle.ec_core.specs.Fields.{stored_progress, component_in, right_in, already_in, is_full, is_full_for, count_value, read_with, read_component, read_effect, IsNamed}
+use Rattle.ec_core.specs.kept.Fields.{stored_progress, component_in, right_in, already_in, is_full, is_full_for, count_value, read_with, read_component, read_effect, IsNamed}
 use Rattle.ec_core.proofs.shared.Signalling.{signallers_length}
 
 -- an eventcount has at most 16 components

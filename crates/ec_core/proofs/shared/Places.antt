@@ -6,7 +6,7 @@ use Rattle.std.proofs.Math.ListN.{get_or}
 use Rattle.std.proofs.lemmas.Option.{slice_get_within, unwrap_or-slice_get}
 use Rattle.ec_count.specs.CountModel.{CountModel}
 pub use Rattle.ec_count.proofs.Membership.{get_set}
-use Rattle.ec_core.specs.Fields.{map_at}
+use Rattle.ec_core.specs.kept.Fields.{map_at}
 use Rattle.ec_core.specs.Standing.{count_at}
 
 -- the element at a position of a list after one element was changed

@@ -24,7 +24,7 @@ use Rattle.ec_core.specs.Calls.{CallSoFar, under_way, is_pending, call_with_act}
 use Rattle.ec_core.specs.Rounds.{event_or, component_count, sum_read, next_component, round_reply, read_reply, go_reply}
 use Rattle.ec_core.specs.Acceptance.{reply_of, answer_of, refusal_of, refusal_in, refused_or, has_right, is_at_limit}
 use Rattle.ec_core.specs.Standing.{State, Represents, count_at, call_progress, progress_of, StandsFor}
-use Rattle.ec_core.specs.Fields.{component_in, right_in, already_in, is_full_for, count_value, read_with, new_progress, read_effect, with_round, as_first, effect_in, reply_of_effect, apply_effect, op_in, IsNamed, effect_or_refusal, IsRightStep}
+use Rattle.ec_core.specs.kept.Fields.{component_in, right_in, already_in, is_full_for, count_value, read_with, new_progress, read_effect, with_round, as_first, effect_in, reply_of_effect, apply_effect, op_in, IsNamed, effect_or_refusal, IsRightStep}
 use Rattle.ec_core.proofs.shared.Answering.{width_few, width_some, kept_is, is_some_map, component_is, right_is, already_is, full_is, round_of, read_is, IsReadingCall, IsAllowed, allowed, call_reads, reading_event}
 use Rattle.ec_core.proofs.ReplyKinds.{kind_is}
 use Rattle.ec_core.proofs.shared.Bounds.{told_small}

@@ -12,7 +12,7 @@ use Rattle.ec_count.proofs.Membership.{place_within}
 use Rattle.ec_core.proofs.shared.Answering.{allowed, width_few}
 use Rattle.ec_core.proofs.shared.Signalling.{signallers_length}
 use Rattle.ec_core.specs.Standing.{State, StandsFor, count_at}
-use Rattle.ec_core.specs.Fields.{count_value}
+use Rattle.ec_core.specs.kept.Fields.{count_value}
 
 eqb-off : (d n : ℕ) → n < d → (d == n) ≡ false
 eqb-off d n h = grind arith

@@ -3,7 +3,7 @@ use Rattle.std.proofs.Common.{◌≡◌, ℕ, suc, zero-add, add-zero, ◌+◌, 
 use Rattle.std.proofs.lemmas.Option.{slice_get_within}
 use Rattle.ec_count.proofs.shared.Keeping.{still_there}
 use Rattle.ec_core.proofs.shared.Joining.{get_back}
-use Rattle.ec_walk.specs.Each.{EachFrom, Each}
+use Rattle.ec_walk.specs.kept.Each.{EachFrom, Each}
 
 module _ {G A : Type 0} (R : G → A → Type 0) (gs : List G) where
   -- the first n have corresponding elements

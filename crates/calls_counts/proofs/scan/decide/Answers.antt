@@ -10,7 +10,7 @@ use Rattle.calls_core.specs.Lists.{EachPair}
 use Rattle.calls_core.specs.Beginnings.{past_at}
 use Rattle.calls_core.specs.Pending.{noted_calls}
 use Rattle.calls_core.proofs.Beginnings.{past_all, history_at, orders_before}
-use Rattle.calls_counts.specs.Orders.{IsOrdering}
+use Rattle.calls_counts.specs.kept.Orders.{IsOrdering}
 use Rattle.calls_counts.specs.Scanning.{Holds, Completes, TakesIn}
 use Rattle.calls_counts.proofs.Events.{pending_rise}
 use Rattle.calls_counts.proofs.Deciding.{begun_within, took_fault, took_next}

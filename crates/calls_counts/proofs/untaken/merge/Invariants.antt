@@ -1,5 +1,5 @@
 use Rattle.std.proofs.Common.{◌≡◌, ◌++◌, drop}
-use Rattle.calls_counts.specs.Orders.{order_from, IsCut}
+use Rattle.calls_counts.specs.kept.Orders.{order_from, IsCut}
 use Rattle.calls_counts.proofs.untaken.merge.Given as goal
 
 abbrev pub invariant-loop-k : goal.invariant-loop-k

@@ -2,7 +2,7 @@ use Rattle.std.proofs.Common.{◌≡◌, ◌<◌, ◌≤◌, ap, sym, refl, subs
 use Rattle.std.specs.Prelude.{option_copied}
 use Rattle.std.proofs.lemmas.Bool.{cases_lt, false≢true}
 use Rattle.calls_distinct.specs.declared.zone.Zone.{Zone}
-use Rattle.calls_distinct.specs.Zones.{AreCrossed, latest}
+use Rattle.calls_distinct.specs.kept.Zones.{AreCrossed, latest}
 use Rattle.calls_distinct.proofs.KeptZones.{latest_more, kept_none, kept_more, crossed_at}
 use Rattle.calls_distinct.proofs.crossing.crossing.Goals as goal
 use Rattle.calls_distinct.proofs.crossing.crossing.Goals.{in-Some+else-precedes, in_default}

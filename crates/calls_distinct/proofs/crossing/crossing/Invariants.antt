@@ -1,7 +1,7 @@
 use Rattle.std.proofs.Common.{take}
 use Rattle.std.specs.Prelude.{option_copied}
 use Rattle.calls_core.specs.Lists.{EachPair}
-use Rattle.calls_distinct.specs.Zones.{KeepZoneOrder, IsLatest}
+use Rattle.calls_distinct.specs.kept.Zones.{KeepZoneOrder, IsLatest}
 use Rattle.calls_distinct.proofs.crossing.crossing.Given as goal
 
 abbrev pub invariant-loop-z : goal.invariant-loop-z

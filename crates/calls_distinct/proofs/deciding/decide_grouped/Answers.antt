@@ -4,7 +4,7 @@ use Rattle.calls_distinct.specs.declared.zone.Group.{Group}
 use Rattle.calls_distinct.specs.declared.zone.GroupedCall.{GroupedCall}
 use Rattle.calls_distinct.specs.Cells.{value}
 use Rattle.calls_distinct.specs.Outcomes.{IsRepeated}
-use Rattle.calls_distinct.specs.Verdicts.{IsVerdict}
+use Rattle.calls_distinct.specs.kept.Verdicts.{IsVerdict}
 use Rattle.calls_distinct.proofs.Judging.{history_distinct, history_repeats}
 use Rattle.calls_distinct.proofs.deciding.decide_grouped.Goals as goal
 

@@ -7,8 +7,8 @@ use Rattle.calls_core.specs.Histories.{clock}
 use Rattle.calls_core.specs.Beginnings.{past_at}
 use Rattle.calls_core.specs.declared.history.Call.{Call}
 use Rattle.calls_core.proofs.Beginnings.{clock_at}
-use Rattle.calls_distinct.specs.Groups.{AreGrouped}
-use Rattle.calls_distinct.specs.Verdicts.{IsVerdict, calls_of_history}
+use Rattle.calls_distinct.specs.kept.Groups.{AreGrouped}
+use Rattle.calls_distinct.specs.kept.Verdicts.{IsVerdict, calls_of_history}
 use Rattle.calls_distinct.proofs.Earlier.{distinct_at, store_at, clock_is}
 use Rattle.calls_distinct.proofs.deciding.judge_beginning.Goals as goal
 

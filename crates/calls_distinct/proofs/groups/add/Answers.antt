@@ -1,7 +1,7 @@
 use Rattle.std.proofs.Common.{sym, ap, ◌∙◌, subst}
 use Rattle.std.specs.Prelude.{nat_eq}
 use Rattle.std.specs.HashMap.{get}
-use Rattle.calls_distinct.specs.Groups.{IsGroup}
+use Rattle.calls_distinct.specs.kept.Groups.{IsGroup}
 use Rattle.calls_distinct.proofs.Grouping.{groups_more, group_kept, group_new}
 use Rattle.calls_distinct.proofs.groups.add.Goals as goal
 use Rattle.calls_distinct.proofs.groups.add.Goals.{in-Some, in-None}

@@ -3,7 +3,7 @@ use Rattle.std.specs.Prelude.{nat_eq}
 use Rattle.std.specs.HashMap.{get}
 use Rattle.std.proofs.lemmas.List.{take_more}
 use Rattle.calls_core.specs.declared.history.Call.{Call}
-use Rattle.calls_distinct.specs.Groups.{AreGroups}
+use Rattle.calls_distinct.specs.kept.Groups.{AreGroups}
 use Rattle.calls_distinct.proofs.groups.groups_of.Goals as goal
 
 pub loop-call-preserved : goal.loop-call-preserved

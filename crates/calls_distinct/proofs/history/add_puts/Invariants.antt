@@ -1,6 +1,6 @@
 use Rattle.std.proofs.Common.{◌≡◌, ◌++◌, take}
 use Rattle.calls_core.specs.Linearizations.{answered_calls}
-use Rattle.calls_distinct.specs.Zones.{put_answer}
+use Rattle.calls_distinct.specs.kept.Zones.{put_answer}
 use Rattle.calls_distinct.proofs.history.add_puts.Given as goal
 
 abbrev pub invariant-loop-o : goal.invariant-loop-o

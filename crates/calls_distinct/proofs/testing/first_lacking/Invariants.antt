@@ -1,7 +1,7 @@
 use Rattle.std.proofs.Common.{◌≡◌, take, false}
 use Rattle.calls_core.specs.Lists.{Each}
 use Rattle.calls_distinct.specs.declared.zone.GroupedCall.{GroupedCall}
-use Rattle.calls_distinct.specs.Groups.{lacks_put}
+use Rattle.calls_distinct.specs.kept.Groups.{lacks_put}
 use Rattle.calls_distinct.proofs.testing.first_lacking.Given as goal
 
 abbrev pub invariant-loop-z : goal.invariant-loop-z

@@ -4,7 +4,7 @@ use Rattle.calls_distinct.specs.declared.cell.Fault.TheVariants.{Nowhere}
 use Rattle.calls_distinct.specs.declared.zone.GroupedCall.{GroupedCall}
 use Rattle.calls_distinct.specs.declared.zone.Zone.{Zone}
 use Rattle.calls_distinct.specs.Cells.{Shows}
-use Rattle.calls_distinct.specs.Zones.{KeepZoneOrder, AreCrossed, zone_calls}
+use Rattle.calls_distinct.specs.kept.Zones.{KeepZoneOrder, AreCrossed, zone_calls}
 use Rattle.calls_distinct.proofs.Judging.{nowhere_shows, crossing_shows, order_is}
 use Rattle.calls_distinct.proofs.verdict.judge.Goals as goal
 

@@ -1,7 +1,7 @@
 use Rattle.std.proofs.Common.{◌≡◌, ap, rules}
 use Rattle.std.specs.Ordering.{is_lt}
 use Rattle.std.proofs.lemmas.List.Sorted.{answers_always}
-use Rattle.calls_distinct.specs.Zones.{zone_cmp}
+use Rattle.calls_distinct.specs.kept.Zones.{zone_cmp}
 use Rattle.calls_distinct.proofs.Sorting.{zone_less, zones_ranked, zones_sorted}
 use Rattle.calls_distinct.proofs.zones.sort_zones.Goals as goal
 

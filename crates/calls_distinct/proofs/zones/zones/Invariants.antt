@@ -1,5 +1,5 @@
 use Rattle.std.proofs.Common.{◌≡◌, take}
-use Rattle.calls_distinct.specs.Groups.{zones_of}
+use Rattle.calls_distinct.specs.kept.Groups.{zones_of}
 use Rattle.calls_distinct.proofs.zones.zones.Given as goal
 
 abbrev pub invariant-loop-z : goal.invariant-loop-z

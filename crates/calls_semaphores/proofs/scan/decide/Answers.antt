@@ -8,7 +8,7 @@ use Rattle.calls_core.specs.Beginnings.{past_at}
 use Rattle.calls_core.specs.Outcomes.{IsOrderOf}
 use Rattle.calls_core.specs.Histories.{clock}
 use Rattle.calls_core.proofs.Beginnings.{past_next, history_next}
-use Rattle.calls_semaphores.specs.Keeping.{Holds, IsStep, Steps}
+use Rattle.calls_semaphores.specs.kept.Keeping.{Holds, IsStep, Steps}
 use Rattle.calls_semaphores.proofs.Scanning.{scan_start}
 use Rattle.calls_semaphores.proofs.Finding.{next_clock, held_whole, first_fault}
 use Rattle.calls_semaphores.proofs.scan.decide.Goals as goal

@@ -1,7 +1,7 @@
 use Rattle.std.proofs.Common.{◌≡◌}
 use Rattle.calls_core.specs.Beginnings.{past_at}
 use Rattle.calls_semaphores.specs.Monitors.{UpTo}
-use Rattle.calls_semaphores.specs.Keeping.{Holds}
+use Rattle.calls_semaphores.specs.kept.Keeping.{Holds}
 use Rattle.calls_semaphores.proofs.scan.decide.Given as goal
 
 abbrev pub invariant-loop-i : goal.invariant-loop-i

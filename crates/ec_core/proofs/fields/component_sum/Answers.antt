@@ -1,6 +1,6 @@
 use Rattle.std.proofs.Common.{◌≡◌, ◌∙◌, ℕ, ap, sym, refl, arith}
 use Rattle.ec_core.specs.Counts.{sum_to}
-use Rattle.ec_core.specs.Fields.{count_value}
+use Rattle.ec_core.specs.kept.Fields.{count_value}
 use Rattle.ec_core.specs.Standing.{count_at}
 use Rattle.ec_core.proofs.shared.Totals.{sum_to_next}
 use Rattle.ec_core.proofs.fields.component_sum.Goals as goal

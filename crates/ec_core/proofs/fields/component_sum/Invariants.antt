@@ -1,6 +1,6 @@
 use Rattle.std.proofs.Common.{◌≡◌, ◌*◌, ◌^◌, ◌≤◌}
 use Rattle.ec_core.specs.Counts.{sum_to}
-use Rattle.ec_core.specs.Fields.{count_value}
+use Rattle.ec_core.specs.kept.Fields.{count_value}
 use Rattle.ec_core.specs.Standing.{count_at}
 use Rattle.ec_core.proofs.fields.component_sum.Given as goal
 

@@ -1,7 +1,7 @@
 use Rattle.std.proofs.Common.{◌≡◌, ◌+◌, ◌*◌, ◌≤◌, suc, length, sym, ap, ◌∙◌, refl, arith, take}
 use Rattle.std.proofs.lemmas.List.{take_all}
 use Rattle.std.proofs.lemmas.Option.{slice_get_read}
-use Rattle.ec_core.specs.Packed.{word_count, total_word_count}
+use Rattle.ec_core.specs.kept.Packed.{word_count, total_word_count}
 use Rattle.ec_core.proofs.Keeping.{widths_step}
 use Rattle.ec_core.proofs.packed.total_word_count.Goals as goal
 

@@ -1,5 +1,5 @@
 use Rattle.std.proofs.Common.{◌≡◌, ◌*◌, ◌≤◌, take}
-use Rattle.ec_core.specs.Packed.{total_word_count}
+use Rattle.ec_core.specs.kept.Packed.{total_word_count}
 use Rattle.ec_core.proofs.packed.total_word_count.Given as goal
 
 abbrev pub invariant-loop-one : goal.invariant-loop-one

@@ -1,5 +1,5 @@
 use Rattle.std.proofs.Common.{◌≡◌, ◌*◌, ◌<◌, ◌≤◌, length, arith}
-use Rattle.ec_core.specs.Packed.{total_word_count}
+use Rattle.ec_core.specs.kept.Packed.{total_word_count}
 use Rattle.ec_core.proofs.Keeping.{widths_small}
 use Rattle.ec_core.proofs.segment.reserve.Goals as goal
 

@@ -1,6 +1,6 @@
 use Rattle.std.proofs.Common.{◌≡◌, ◌+◌, ◌-◌, ◌*◌, ◌/◌, ◌≤◌, ◌∙◌, drop, take, length, slice_index_or, ap, sym, arith, Fits}
 use Rattle.std.proofs.lemmas.List.{length-drop, length-take-le}
-use Rattle.ec_core.specs.Packed.{total_word_count}
+use Rattle.ec_core.specs.kept.Packed.{total_word_count}
 use Rattle.ec_core.proofs.Keeping.{widths_cut, widths_small}
 use Rattle.ec_core.proofs.segment.word_start.Goals as goal
 

@@ -8,7 +8,7 @@ use Rattle.ec_draw.specs.declared.finding.GroupState.{GroupState}
 use Rattle.ec_draw.specs.Arrows.{group_arrows}
 use Rattle.ec_draw.specs.Balances.{group_line}
 use Rattle.ec_draw.specs.Curves.{curve_model}
-use Rattle.ec_draw.specs.Findings.{FindsFor, EachFindsFrom}
+use Rattle.ec_draw.specs.kept.Findings.{FindsFor, EachFindsFrom}
 use Rattle.ec_draw.specs.Shades.{group_shades, shade_model}
 use Rattle.ec_draw.proofs.WalkLemmas.{found_more, found_all, nil_of}
 use Rattle.ec_draw.proofs.finding.add_groups.Goals as goal

@@ -4,7 +4,7 @@ use Rattle.std.specs.Vec.Iter.{into_iter_items, into_iter_len}
 use Rattle.ec_draw.specs.Arrows.{group_arrows}
 use Rattle.ec_draw.specs.Balances.{group_line}
 use Rattle.ec_draw.specs.Curves.{curve_model}
-use Rattle.ec_draw.specs.Findings.{EachFindsFrom}
+use Rattle.ec_draw.specs.kept.Findings.{EachFindsFrom}
 use Rattle.ec_draw.specs.Shades.{group_shades, shade_model}
 use Rattle.ec_draw.proofs.finding.add_groups.Given as goal
 

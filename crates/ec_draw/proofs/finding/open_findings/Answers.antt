@@ -3,7 +3,7 @@ use Rattle.std.proofs.lemmas.Option.{slice_get_read}
 use Rattle.ec_heading.specs.declared.group.Group.{Group}
 use Rattle.ec_walk.proofs.shared.Each.{each_more, each_all, one_longer}
 use Rattle.ec_draw.specs.declared.finding.GroupState.{GroupState}
-use Rattle.ec_draw.specs.Findings.{FindsFor}
+use Rattle.ec_draw.specs.kept.Findings.{FindsFor}
 use Rattle.ec_draw.proofs.finding.open_findings.Goals as goal
 
 pub loop-number-preserved : goal.loop-number-preserved

@@ -1,6 +1,6 @@
 use Rattle.std.proofs.Common.{◌≡◌, [], length}
 use Rattle.ec_walk.proofs.shared.Each.{EachFirst}
-use Rattle.ec_draw.specs.Findings.{FindsFor}
+use Rattle.ec_draw.specs.kept.Findings.{FindsFor}
 use Rattle.ec_draw.proofs.finding.open_findings.Given as goal
 
 -- the groups so far

@@ -1,7 +1,7 @@
 use Rattle.std.proofs.Common.{◌≡◌, ◌++◌, true, sym, ◌∙◌, ap, subst}
 use Rattle.ec_machine.specs.Limits.{is_sound_one}
 use Rattle.ec_machine.specs.Unrolled.{unroll, unroll_command}
-use Rattle.ec_machine.specs.Left.{left_of}
+use Rattle.ec_machine.specs.kept.Left.{left_of}
 use Rattle.ec_machine.proofs.Frames.{entered, split_first, is_done_once, written_repeat}
 use Rattle.ec_machine.proofs.remaining.+enter.Goals as goal
 

@@ -1,5 +1,5 @@
 use Rattle.std.proofs.Common.{ap, ◌∙◌}
-use Rattle.ec_order.specs.BitVec.{bits_of_words}
+use Rattle.ec_order.specs.kept.BitVec.{bits_of_words}
 use Rattle.ec_order.proofs.Marking.{marks_put}
 use Rattle.ec_order.proofs.bit_vec.begin_word.Goals as goal
 

@@ -1,6 +1,6 @@
 use Rattle.std.proofs.Common.{◌≤◌, ◌∙◌, ◌++◌, length, drop, ap, sym, arith}
 use Rattle.std.proofs.lemmas.Bool.Decides.{nat_tests}
-use Rattle.ec_order.specs.BitVec.{bits_of_word, bits_of_words}
+use Rattle.ec_order.specs.kept.BitVec.{bits_of_word, bits_of_words}
 use Rattle.ec_order.proofs.Marking.{left_none, left_last}
 use Rattle.ec_order.proofs.bit_vec.next_word.Goals as goal
 

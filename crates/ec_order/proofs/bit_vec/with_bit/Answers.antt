@@ -1,5 +1,5 @@
 use Rattle.std.proofs.Common.{◌≡◌, ◌+◌, ◌*◌, ◌∙◌, ◌++◌, ◌∷◌, [], ap, sym, arith}
-use Rattle.ec_order.specs.BitVec.{bits_of_word}
+use Rattle.ec_order.specs.kept.BitVec.{bits_of_word}
 use Rattle.ec_order.proofs.Marking.{marks_more}
 use Rattle.ec_order.proofs.bit_vec.with_bit.Goals as goal
 

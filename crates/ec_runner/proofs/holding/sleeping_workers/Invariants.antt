@@ -1,5 +1,5 @@
 use Rattle.std.proofs.Common.{◌≡◌, ℕ, ◌<◌, length, slice_get, Some}
-use Rattle.ec_runner.specs.Holds.{is_asleep}
+use Rattle.ec_runner.specs.kept.Holds.{is_asleep}
 use Rattle.ec_runner.proofs.holding.sleeping_workers.Given as goal
 
 abbrev pub invariant-loop-v : goal.invariant-loop-v

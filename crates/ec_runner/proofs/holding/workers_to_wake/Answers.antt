@@ -1,5 +1,5 @@
 use Rattle.std.proofs.Common.{ℕ, arith, subst, ◌<◌, sym, length-set, ◌∙◌}
-use Rattle.ec_runner.specs.Holds.{is_woken}
+use Rattle.ec_runner.specs.kept.Holds.{is_woken}
 use Rattle.ec_runner.proofs.Waking.{set_below}
 use Rattle.ec_runner.proofs.holding.workers_to_wake.Goals as goal
 

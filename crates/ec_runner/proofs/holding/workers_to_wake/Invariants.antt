@@ -1,6 +1,6 @@
 use Rattle.std.proofs.Common.{◌≡◌, ℕ, ◌<◌, length, slice_get, Some}
 use Rattle.ec_runner.specs.BoardModel.{BoardModel}
-use Rattle.ec_runner.specs.Holds.{is_asleep, is_woken}
+use Rattle.ec_runner.specs.kept.Holds.{is_asleep, is_woken}
 use Rattle.ec_runner.proofs.holding.workers_to_wake.Given as goal
 
 abbrev pub invariant-loop-v : goal.invariant-loop-v

@@ -1,5 +1,5 @@
 use Rattle.std.proofs.Common.{◌≡◌, ◌≢◌, ◌<◌, ℕ, ◌∷◌, ◌++◌, [], Some, length, slice_get, slice_set, slice_index, sym, ◌∙◌, ap, subst, ◌+◌}
-use Rattle.ec_runner.specs.LogComparison.{AreComparedSoFar}
+use Rattle.ec_runner.specs.kept.LogComparison.{AreComparedSoFar}
 use Rattle.ec_runner.proofs.Walking.{index_is, walks, unlike}
 use Rattle.ec_runner.proofs.log_comparison.advances_cursor.Goals as goal
 

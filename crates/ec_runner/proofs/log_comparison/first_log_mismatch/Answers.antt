@@ -1,7 +1,7 @@
 use Rattle.std.proofs.Common.{append-nil, ◌≡◌, ◌<◌, List, length, sym, ◌∙◌, ap, ◌++◌, subst, arith}
 use Rattle.ec_core.specs.declared.act.Entry.{Entry}
 use Rattle.ec_machine.proofs.shared.OwnSteps.{order_more, entry_next as entry_there}
-use Rattle.ec_runner.specs.LogComparison.{AreLogsOf, IsLogMismatch}
+use Rattle.ec_runner.specs.kept.LogComparison.{AreLogsOf, IsLogMismatch}
 use Rattle.ec_runner.proofs.Walking.{all_walked, is_declared, then_match, unfinished, unlike_there}
 use Rattle.ec_runner.proofs.log_comparison.first_log_mismatch.Goals as goal
 

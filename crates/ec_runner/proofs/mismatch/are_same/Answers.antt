@@ -1,5 +1,5 @@
 use Rattle.std.proofs.lemmas.Bool.Decides.{Decides-at}
-use Rattle.ec_count.specs.Same.{tables_decide}
+use Rattle.ec_count.specs.kept.Same.{tables_decide}
 use Rattle.ec_runner.proofs.mismatch.are_same.Goals as goal
 
 pub returns : goal.returns

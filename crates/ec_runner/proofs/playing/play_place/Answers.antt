@@ -1,7 +1,7 @@
 use Rattle.std.proofs.Common.{sym, subst}
 use Rattle.std.specs.Prelude.{slice_set}
 use Rattle.std.proofs.lemmas.Option.{slice_get-get_or}
-use Rattle.ec_runner.specs.Machines.{PlaysOne}
+use Rattle.ec_runner.specs.kept.Machines.{PlaysOne}
 use Rattle.ec_runner.proofs.Turning.{place_played}
 use Rattle.ec_runner.proofs.playing.play_place.Goals as goal
 

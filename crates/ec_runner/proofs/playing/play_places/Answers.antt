@@ -1,7 +1,7 @@
 use Rattle.std.proofs.Common.{[], ◌∙◌, sym, ap, subst, Some, arith}
 use Rattle.std.proofs.lemmas.List.{take_all}
 use Rattle.std.proofs.lemmas.Option.{slice_get-get_or}
-use Rattle.ec_runner.specs.Machines.{IsPlayed}
+use Rattle.ec_runner.specs.kept.Machines.{IsPlayed}
 use Rattle.ec_runner.proofs.Turning.{place_more}
 use Rattle.ec_runner.proofs.playing.play_places.Goals as goal
 

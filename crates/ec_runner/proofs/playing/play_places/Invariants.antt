@@ -1,7 +1,7 @@
 use Rattle.std.proofs.Common.{[], List, take}
 use Rattle.ec_count.specs.Tables.{Tables}
 use Rattle.ec_machine.specs.declared.command.Command.{Command}
-use Rattle.ec_runner.specs.Machines.{IsPlayed}
+use Rattle.ec_runner.specs.kept.Machines.{IsPlayed}
 use Rattle.ec_runner.specs.Schedules.{Turn}
 use Rattle.ec_runner.proofs.playing.play_places.Given as goal
 

@@ -2,7 +2,7 @@ use Rattle.std.proofs.Common.{[], List, ap, subst, MatchResult, ◌∙◌}
 use Rattle.ec_count.specs.Tables.{Tables}
 use Rattle.ec_core.specs.RunModel.{RunModel}
 use Rattle.ec_machine.specs.declared.command.Command.{Command}
-use Rattle.ec_runner.specs.Machines.{AreMachines, IsPlayFault}
+use Rattle.ec_runner.specs.kept.Machines.{AreMachines, IsPlayFault}
 use Rattle.ec_runner.specs.Reported.{IsReport}
 use Rattle.ec_runner.proofs.Reporting.{play_answers}
 use Rattle.ec_runner.proofs.schedule.simulate.Goals as goal

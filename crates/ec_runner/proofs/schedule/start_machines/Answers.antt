@@ -1,6 +1,6 @@
 use Rattle.std.proofs.Common.{sym, ◌∙◌, ap, subst, length, ◌+◌, []}
 use Rattle.std.proofs.lemmas.List.{length_push}
-use Rattle.ec_runner.specs.Machines.{AreMachines}
+use Rattle.ec_runner.specs.kept.Machines.{AreMachines}
 use Rattle.ec_runner.proofs.Starting.{machines_more}
 use Rattle.ec_runner.proofs.schedule.start_machines.Goals as goal
 

@@ -1,5 +1,5 @@
 use Rattle.std.proofs.Common.{◌≡◌, [], length}
-use Rattle.ec_runner.specs.Machines.{AreMachines}
+use Rattle.ec_runner.specs.kept.Machines.{AreMachines}
 use Rattle.ec_runner.proofs.schedule.start_machines.Given as goal
 
 abbrev pub invariant-loop-program : goal.invariant-loop-program

@@ -1,6 +1,6 @@
 use Rattle.std.proofs.Common.{◌-◌, List, ℕ, []}
 use Rattle.ec_core.specs.declared.act.Entry.{Entry}
-use Rattle.ec_trace.specs.LineCache.{IsLineCache}
+use Rattle.ec_trace.specs.kept.LineCache.{IsLineCache}
 use Rattle.ec_trace.specs.EntrySinks.{history_of}
 use Rattle.ec_trace.specs.Stages.{Running}
 use Rattle.ec_trace.specs.Reading.{Reaches, IsOpened}

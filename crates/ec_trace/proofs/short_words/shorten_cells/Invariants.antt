@@ -1,5 +1,5 @@
 use Rattle.std.proofs.Common.{◌≡◌, ℕ, ◌<◌, length}
-use Rattle.ec_trace.specs.WordTables.{IsShortOf, short_at, cell_at}
+use Rattle.ec_trace.specs.kept.WordTables.{IsShortOf, short_at, cell_at}
 use Rattle.ec_trace.proofs.short_words.shorten_cells.Given as goal
 
 abbrev pub invariant-loop-x : goal.invariant-loop-x

@@ -1,5 +1,5 @@
 use Rattle.std.proofs.Common.{◌≡◌, ℕ, if◌then◌else◌, nat_lt, length}
-use Rattle.ec_trace.specs.WordTables.{cell_at, with_block}
+use Rattle.ec_trace.specs.kept.WordTables.{cell_at, with_block}
 use Rattle.ec_trace.proofs.spell.set_cells.Given as goal
 
 abbrev pub invariant-loop-x : goal.invariant-loop-x

@@ -4,7 +4,7 @@ use Rattle.ec_heading.specs.Rules.{semaphores_of}
 use Rattle.ec_heading.specs.declared.group.Group.{Group}
 use Rattle.evc_engine.specs.Audits.{Audits}
 use Rattle.evc_engine.specs.Checks.{Outputs}
-use Rattle.evc_engine.specs.Walks.{EachRepresents, EachEndsFor}
+use Rattle.evc_engine.specs.kept.Walks.{EachRepresents, EachEndsFor}
 use Rattle.evc_engine.proofs.Findings.{walk_finds}
 use Rattle.evc_engine.proofs.FoundWritten.{stays, fault_told}
 use Rattle.evc_engine.proofs.auditing.audit_entries.Goals as goal

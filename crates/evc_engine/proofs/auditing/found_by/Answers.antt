@@ -2,9 +2,9 @@ use Rattle.std.proofs.Common.{rules as the_rules, ◌+◌, ◌<◌, subst, sym, 
 use Rattle.std.specs.Vec.Iter.{into_iter_items}
 use Rattle.ec_heading.specs.declared.group.Group.{Group}
 use Rattle.evc_engine.specs.declared.walked.Auditing.{Auditing}
-use Rattle.ec_walk.specs.Each.{EachFrom}
+use Rattle.ec_walk.specs.kept.Each.{EachFrom}
 use Rattle.ec_walk.proofs.shared.Each.{from_first, from_here, from_next}
-use Rattle.evc_engine.specs.Walks.{EndsFor}
+use Rattle.evc_engine.specs.kept.Walks.{EndsFor}
 use Rattle.evc_engine.proofs.Findings.{group_at}
 use Rattle.evc_engine.proofs.shared.AuditLemmas.{EachIsAudited, none_audited, one_more_audited, stops, audited_length}
 use Rattle.evc_engine.proofs.auditing.found_by.Goals as goal

@@ -2,8 +2,8 @@ use Rattle.std.proofs.Common.{◌≡◌, List, length}
 use Rattle.std.specs.Vec.Iter.{into_iter_items, into_iter_len}
 use Rattle.ec_core.specs.declared.act.Entry.{Entry}
 use Rattle.ec_heading.specs.HeadingModel.{HeadingModel}
-use Rattle.ec_walk.specs.Each.{EachFrom}
-use Rattle.evc_engine.specs.Walks.{EndsFor, EachEndsFor}
+use Rattle.ec_walk.specs.kept.Each.{EachFrom}
+use Rattle.evc_engine.specs.kept.Walks.{EndsFor, EachEndsFor}
 use Rattle.evc_engine.proofs.shared.AuditLemmas.{EachIsAudited}
 use Rattle.evc_engine.proofs.auditing.found_by.Given as goal
 

@@ -1,7 +1,7 @@
 use Rattle.std.proofs.Common.{sym, ◌∙◌, ap, subst}
 use Rattle.ec_order.specs.Linearizer.{LinearizerModel}
 use Rattle.evc_engine.specs.Checks.{Checks, Outputs}
-use Rattle.evc_engine.specs.Halts.{IsReadInto}
+use Rattle.evc_engine.specs.kept.Halts.{IsReadInto}
 use Rattle.evc_engine.proofs.CheckLemmas.{fault_checked, written_checked}
 use Rattle.evc_engine.proofs.FoundWritten.{stays}
 use Rattle.evc_engine.proofs.checking.check_entries.Goals as goal

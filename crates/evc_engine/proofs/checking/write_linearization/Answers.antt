@@ -1,5 +1,5 @@
 use Rattle.std.proofs.Common.{refl, sym, subst}
-use Rattle.evc_engine.specs.Halts.{IsReadInto}
+use Rattle.evc_engine.specs.kept.Halts.{IsReadInto}
 use Rattle.evc_engine.proofs.CheckLemmas.{text_written, front_written, good_told}
 use Rattle.evc_engine.proofs.checking.write_linearization.Goals as goal
 

@@ -2,7 +2,7 @@ use Rattle.std.proofs.Common.{[], refl, arith}
 use Rattle.std.proofs.lemmas.Option.{slice_get_read}
 use Rattle.ec_heading.specs.declared.group.Group.{Group}
 use Rattle.evc_engine.specs.declared.walked.Auditing.{Auditing}
-use Rattle.evc_engine.specs.Walks.{AuditRepresents}
+use Rattle.evc_engine.specs.kept.Walks.{AuditRepresents}
 use Rattle.ec_walk.proofs.shared.Each.{each_more, each_all, one_longer}
 use Rattle.evc_engine.proofs.walked.open_audits.Goals as goal
 

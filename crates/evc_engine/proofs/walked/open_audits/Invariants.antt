@@ -1,6 +1,6 @@
 use Rattle.std.proofs.Common.{◌≡◌, [], length}
 use Rattle.ec_walk.proofs.shared.Each.{EachFirst}
-use Rattle.evc_engine.specs.Walks.{AuditRepresents}
+use Rattle.evc_engine.specs.kept.Walks.{AuditRepresents}
 use Rattle.evc_engine.proofs.walked.open_audits.Given as goal
 
 -- the audits of the groups so far

@@ -3,7 +3,7 @@ use Rattle.calls_core.specs.declared.history.Call.{Call}
 use Rattle.calls_core.specs.Pending.{IsPendingOf}
 use Rattle.calls_core.specs.Histories.{pending_of}
 use Rattle.calls_semaphores.specs.Monitors.{IsRefusedAt}
-use Rattle.calls_semaphores.specs.Keeping.{TakenAs}
+use Rattle.calls_semaphores.specs.kept.Keeping.{TakenAs}
 use Rattle.calls_semaphores.proofs.Monitoring.{monitor_invoked, monitor_responded, monitor_refused}
 use Rattle.calls_semaphores.proofs.Monitoring.{monitor_nobody}
 use Rattle.calls_semaphores.proofs.monitor.Monitor.event.Goals as goal

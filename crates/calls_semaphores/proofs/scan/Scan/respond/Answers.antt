@@ -6,7 +6,7 @@ use Rattle.calls_core.specs.Pending.{noted_calls, IsNotedOf}
 use Rattle.calls_core.specs.Histories.{pending_of}
 use Rattle.calls_semaphores.specs.declared.scan.Scan.{Scan}
 use Rattle.calls_semaphores.specs.Monitors.{IsRefusedAt}
-use Rattle.calls_semaphores.specs.Keeping.{is_v, TakenAs}
+use Rattle.calls_semaphores.specs.kept.Keeping.{is_v, TakenAs}
 use Rattle.calls_semaphores.proofs.Scanning.{at_noted, scan_nobody, scan_refused}
 use Rattle.calls_semaphores.proofs.Scanning.{scan_other, scan_v, placed_within}
 use Rattle.calls_semaphores.proofs.scan.Scan.respond.Goals as goal

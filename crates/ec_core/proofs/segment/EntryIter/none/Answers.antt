@@ -1,5 +1,5 @@
 use Rattle.std.proofs.Common.{refl}
-use Rattle.ec_core.specs.Packed.{unpack_entries}
+use Rattle.ec_core.specs.kept.Packed.{unpack_entries}
 use Rattle.ec_core.proofs.segment.EntryIter.none.Goals as goal
 
 pub returns : goal.returns

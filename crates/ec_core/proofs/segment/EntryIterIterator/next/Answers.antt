@@ -1,7 +1,7 @@
 use Rattle.std.proofs.Common.{◌≡◌, ◌∷◌, ◌∙◌, ◌-◌, drop, length, slice_get, Some, refl, ap, sym, rules, arith}
 use Rattle.std.proofs.lemmas.List.{length-drop, take_all}
 use Rattle.std.proofs.lemmas.Option.{slice_get_read}
-use Rattle.ec_core.specs.Packed.{unpack_entries, word_count}
+use Rattle.ec_core.specs.kept.Packed.{unpack_entries, word_count}
 use Rattle.ec_core.proofs.Keeping.{first_kept, none_kept}
 use Rattle.ec_core.proofs.segment.EntryIterIterator.next.Goals as goal
 

@@ -1,6 +1,6 @@
 use Rattle.std.proofs.Common.{◌≡◌, ◌≤◌, ◌∙◌, drop, take, length, slice_get, Some, refl, ap, sym, arith}
 use Rattle.std.proofs.lemmas.Option.{slice_get_read, slice_get_past}
-use Rattle.ec_core.specs.Packed.{unpack_entry, total_word_count}
+use Rattle.ec_core.specs.kept.Packed.{unpack_entry, total_word_count}
 use Rattle.ec_core.proofs.Keeping.{entry_at, length_kept, widths_within}
 use Rattle.ec_core.proofs.segment.Segment.get.Goals as goal
 

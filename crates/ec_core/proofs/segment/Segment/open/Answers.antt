@@ -1,5 +1,5 @@
 use Rattle.std.proofs.Common.{◌≤◌, [], vec_capacity, ap, sym, subst}
-use Rattle.ec_core.specs.Packed.{unpack_entries, IsSegment}
+use Rattle.ec_core.specs.kept.Packed.{unpack_entries, IsSegment}
 use Rattle.ec_core.proofs.Keeping.{none_begun}
 use Rattle.ec_core.proofs.segment.Segment.open.Goals as goal
 

@@ -1,5 +1,5 @@
 use Rattle.std.proofs.Common.{◌≡◌, ◌+◌, ◌*◌, ◌<◌, ◌≤◌, ◌∙◌, [], ◌∷◌, ◌++◌, append_assoc, length, length-append, vec_capacity, ap, sym, subst, arith}
-use Rattle.ec_core.specs.Packed.{words_of_option, words_in, unpack_entries, value_in, pack_entry, word_count, total_word_count, AreStarts, IsSegment}
+use Rattle.ec_core.specs.kept.Packed.{words_of_option, words_in, unpack_entries, value_in, pack_entry, word_count, total_word_count, AreStarts, IsSegment}
 use Rattle.ec_core.proofs.Keeping.{length_kept, one_more, starts_still, width_counted, width_small, widths_more}
 use Rattle.ec_core.proofs.segment.Segment.push.Goals as goal
 

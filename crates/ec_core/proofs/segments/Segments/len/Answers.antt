@@ -1,5 +1,5 @@
 use Rattle.std.proofs.Common.{◌≡◌, ◌+◌, ◌*◌, ◌∙◌, length, ap, sym, arith}
-use Rattle.ec_core.specs.Packed.{concat_segments}
+use Rattle.ec_core.specs.kept.Packed.{concat_segments}
 use Rattle.ec_core.proofs.shared.Joining.{length_joined}
 use Rattle.ec_core.proofs.segments.Segments.len.Goals as goal
 

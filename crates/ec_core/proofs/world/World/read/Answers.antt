@@ -1,7 +1,7 @@
 use Rattle.std.proofs.Common.{◌≡◌, ◌+◌, ◌∙◌, ap}
 use Rattle.ec_core.specs.Rounds.{event_or, component_count}
 use Rattle.ec_core.specs.Standing.{State, count_at}
-use Rattle.ec_core.specs.Fields.{count_value, read_component}
+use Rattle.ec_core.specs.kept.Fields.{count_value, read_component}
 use Rattle.ec_core.proofs.shared.Places.{row_read}
 use Rattle.ec_core.proofs.world.World.read.Goals as goal
 

@@ -3,7 +3,7 @@ use Rattle.ec_count.specs.CountModel.{CountModel}
 use Rattle.ec_core.specs.Counts.{sum_to}
 use Rattle.ec_core.specs.Rounds.{component_count}
 use Rattle.ec_core.specs.Standing.{State, count_at}
-use Rattle.ec_core.specs.Fields.{count_value}
+use Rattle.ec_core.specs.kept.Fields.{count_value}
 use Rattle.ec_core.proofs.shared.Totals.{total_now}
 use Rattle.ec_core.proofs.world.World.total.Goals as goal
 

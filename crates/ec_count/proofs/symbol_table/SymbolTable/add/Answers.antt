@@ -4,7 +4,7 @@ use Rattle.std.specs.Map.{lookup}
 use Rattle.indexmap.proofs.CallerLemmas.{insert_entry-new}
 use Rattle.ec_count.specs.declared.target.Target.{Target}
 use Rattle.ec_count.specs.Names.{find_name}
-use Rattle.ec_count.specs.SymbolTable.{AreShort, by_word, same_word}
+use Rattle.ec_count.specs.kept.SymbolTable.{AreShort, by_word, same_word}
 use Rattle.ec_count.proofs.Worded.{find_word, by_word-append, short-push}
 use Rattle.ec_count.proofs.symbol_table.SymbolTable.add.Goals as goal
 use Rattle.ec_count.proofs.symbol_table.SymbolTable.add.Goals.{In-Ok}

@@ -2,7 +2,7 @@ use Rattle.std.proofs.Common.{ℕ, List, sym, ap, ◌∙◌}
 use Rattle.std.specs.Prelude.{bytes_eq}
 use Rattle.std.specs.Map.{lookup}
 use Rattle.ec_count.specs.Names.{find_name}
-use Rattle.ec_count.specs.SymbolTable.{by_word}
+use Rattle.ec_count.specs.kept.SymbolTable.{by_word}
 use Rattle.ec_count.proofs.Worded.{find_word, long_word}
 use Rattle.ec_count.proofs.symbol_table.SymbolTable.find_in_table.Goals as goal
 

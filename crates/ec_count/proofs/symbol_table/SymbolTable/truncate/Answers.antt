@@ -1,5 +1,5 @@
 use Rattle.std.proofs.Common.{◌∙◌, sym, ap, subst, take}
-use Rattle.ec_count.specs.SymbolTable.{AreShort, by_word}
+use Rattle.ec_count.specs.kept.SymbolTable.{AreShort, by_word}
 use Rattle.ec_count.proofs.Worded.{by_word-take, short-take}
 use Rattle.ec_count.proofs.symbol_table.SymbolTable.truncate.Goals as goal
 

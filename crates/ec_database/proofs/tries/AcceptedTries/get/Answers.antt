@@ -2,7 +2,7 @@ use Rattle.std.proofs.Common.{◌≡◌, ◌+◌, ◌*◌, ◌<◌, ◌≤◌, �
 use Rattle.std.proofs.lemmas.List.FromFn.{length-map-range_with_len}
 use Rattle.std.proofs.lemmas.Option.{slice_get_past}
 use Rattle.ec_database.specs.Tries.{TryTable}
-use Rattle.ec_database.specs.Rows.{try_at, tries_in}
+use Rattle.ec_database.specs.kept.Rows.{try_at, tries_in}
 use Rattle.ec_database.proofs.Rows.{row_within, row_read, try_got}
 use Rattle.ec_database.proofs.tries.AcceptedTries.get.Goals as goal
 

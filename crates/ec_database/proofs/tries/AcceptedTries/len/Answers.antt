@@ -1,7 +1,7 @@
 use Rattle.std.proofs.Common.{length, ap, sym, ◌∙◌}
 use Rattle.std.proofs.lemmas.List.FromFn.{length-map-range_with_len}
 use Rattle.ec_database.specs.Tries.{TryTable}
-use Rattle.ec_database.specs.Rows.{try_at}
+use Rattle.ec_database.specs.kept.Rows.{try_at}
 use Rattle.ec_database.proofs.tries.AcceptedTries.len.Goals as goal
 
 pub returns : goal.returns

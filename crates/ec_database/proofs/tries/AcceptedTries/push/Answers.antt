@@ -1,6 +1,6 @@
 use Rattle.std.proofs.Common.{◌+◌, ◌∷◌, [], ◌++◌, ap, sym, subst, ◌∙◌}
 use Rattle.ec_database.specs.Tries.{TryTable}
-use Rattle.ec_database.specs.Rows.{AreRows, tries_in}
+use Rattle.ec_database.specs.kept.Rows.{AreRows, tries_in}
 use Rattle.ec_database.proofs.Rows.{rows_more, tries_more}
 use Rattle.ec_database.proofs.tries.AcceptedTries.push.Goals as goal
 

@@ -1,6 +1,6 @@
 use Rattle.std.proofs.Common.{subst}
 use Rattle.ec_draw.specs.declared.finding.GroupState.{GroupState}
-use Rattle.ec_draw.specs.Findings.{FindsOn}
+use Rattle.ec_draw.specs.kept.Findings.{FindsOn}
 use Rattle.ec_draw.proofs.WalkLemmas.{takes_balance, takes_both, takes_tries, takes_moves}
 use Rattle.ec_draw.proofs.finding.GroupStateAudit.take.Goals as goal
 

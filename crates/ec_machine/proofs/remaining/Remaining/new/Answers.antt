@@ -1,5 +1,5 @@
 use Rattle.std.proofs.Common.{sym, ◌∙◌, ap, refl}
-use Rattle.ec_machine.specs.Left.{left_of}
+use Rattle.ec_machine.specs.kept.Left.{left_of}
 use Rattle.ec_machine.proofs.Frames.{left_none, written_none, started}
 use Rattle.ec_machine.proofs.remaining.Remaining.new.Goals as goal
 

@@ -1,5 +1,5 @@
 use Rattle.std.proofs.Common.{◌≡◌, ◌*◌, ◌^◌, ◌<◌, ◌∙◌, drop, ap, sym, arith, rules}
-use Rattle.ec_order.specs.BitVec.{bits_of_words}
+use Rattle.ec_order.specs.kept.BitVec.{bits_of_words}
 use Rattle.ec_order.proofs.Marking.{word_begins, word_without, left_next}
 use Rattle.ec_order.proofs.bit_vec.BitIterIterator.next.Goals as goal
 use Rattle.ec_order.proofs.bit_vec.BitIterIterator.next.Goals.{then-self-eq0+else-self-eq0-2, else-self-eq0}

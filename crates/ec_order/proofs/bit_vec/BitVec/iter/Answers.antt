@@ -1,5 +1,5 @@
 use Rattle.std.proofs.Common.{◌<◌, ◌∙◌, ◌^◌, ap, subst, length, List, Bool}
-use Rattle.ec_order.specs.BitVec.{low_bits, bits_of_words}
+use Rattle.ec_order.specs.kept.BitVec.{low_bits, bits_of_words}
 use Rattle.ec_order.proofs.Marking.{marks_few}
 use Rattle.ec_order.proofs.bit_vec.BitVec.iter.Goals as goal
 

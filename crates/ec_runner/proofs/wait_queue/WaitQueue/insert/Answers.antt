@@ -1,6 +1,6 @@
 use Rattle.std.proofs.Common.{◌≡◌, ◌∙◌, ap}
 use Rattle.std.specs.List.{insert}
-use Rattle.ec_runner.specs.WaitQueues.{insertion_index, insert_waiter}
+use Rattle.ec_runner.specs.kept.WaitQueues.{insertion_index, insert_waiter}
 use Rattle.ec_runner.proofs.Lining.{placed_is}
 use Rattle.ec_runner.proofs.wait_queue.WaitQueue.insert.Goals as goal
 

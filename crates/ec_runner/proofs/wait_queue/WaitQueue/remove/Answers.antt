@@ -1,6 +1,6 @@
 use Rattle.std.proofs.Common.{rules, ◌∙◌, ap}
 use Rattle.arrayvec.proofs.ArrayVecLemmas.{filter-from_retain}
-use Rattle.ec_runner.specs.WaitQueues.{without}
+use Rattle.ec_runner.specs.kept.WaitQueues.{without}
 use Rattle.ec_runner.proofs.wait_queue.WaitQueue.remove.Goals as goal
 
 pub returns : goal.returns

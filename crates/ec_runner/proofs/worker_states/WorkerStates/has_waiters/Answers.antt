@@ -1,7 +1,7 @@
 use Rattle.std.proofs.Common.{◌≡◌, ◌∙◌, ap, not, slice_get, get_or, Some, arith}
 use Rattle.std.specs.List.{list_any}
 use Rattle.std.proofs.lemmas.Option.{slice_get-get_or}
-use Rattle.ec_runner.specs.WaitQueues.{waits_on}
+use Rattle.ec_runner.specs.kept.WaitQueues.{waits_on}
 use Rattle.ec_runner.proofs.Lining.{line_tells}
 use Rattle.ec_runner.proofs.worker_states.WorkerStates.has_waiters.Goals as goal
 

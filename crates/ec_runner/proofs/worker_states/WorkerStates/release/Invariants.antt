@@ -1,6 +1,6 @@
 use Rattle.std.proofs.Common.{◌≡◌, map}
 use Rattle.ec_runner.specs.WorkerStates.{state_at_total}
-use Rattle.ec_runner.specs.WaitQueues.{number_on}
+use Rattle.ec_runner.specs.kept.WaitQueues.{number_on}
 use Rattle.ec_runner.proofs.worker_states.WorkerStates.release.Given as goal
 
 abbrev pub invariant-loop-event : goal.invariant-loop-event

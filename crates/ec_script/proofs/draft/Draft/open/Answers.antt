@@ -1,7 +1,7 @@
 use Rattle.std.proofs.Common.{◌+◌, sym, ◌∙◌, ap, subst, arith}
 use Rattle.std.specs.Global.{Vec}
 use Rattle.ec_machine.specs.declared.command.Command.{Command}
-use Rattle.ec_script.specs.Inner.{IsDraft}
+use Rattle.ec_script.specs.kept.Inner.{IsDraft}
 use Rattle.ec_script.specs.DraftModel.{DraftModel, draft_with_repeat}
 use Rattle.ec_script.proofs.Drafts.{view_of, opened_is, opened_fits}
 use Rattle.ec_script.proofs.draft.Draft.open.Goals as goal

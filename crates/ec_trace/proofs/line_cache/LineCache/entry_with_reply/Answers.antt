@@ -1,5 +1,5 @@
 use Rattle.std.proofs.Common.{rules, ◌≡◌, false}
-use Rattle.ec_trace.specs.LineCache.{has_value}
+use Rattle.ec_trace.specs.kept.LineCache.{has_value}
 use Rattle.ec_trace.proofs.CacheLemmas.{entry_of_cached}
 use Rattle.ec_trace.proofs.line_cache.LineCache.entry_with_reply.Goals as goal
 

@@ -1,7 +1,7 @@
 use Rattle.std.proofs.Common.{rules, ◌≡◌, ◌∙◌, true, Some, sym, ap}
 use Rattle.ec_core.specs.declared.act.Act.{Act}
 use Rattle.ec_core.specs.declared.act.Entry.{Entry}
-use Rattle.ec_trace.specs.LineCache.{has_value}
+use Rattle.ec_trace.specs.kept.LineCache.{has_value}
 use Rattle.ec_trace.proofs.CacheLemmas.{opened}
 use Rattle.ec_trace.proofs.line_cache.LineCache.entry_with_value.Goals as goal
 

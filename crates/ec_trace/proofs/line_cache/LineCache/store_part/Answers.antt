@@ -1,5 +1,5 @@
 use Rattle.std.proofs.Common.{rules, ◌≡◌, true}
-use Rattle.ec_trace.specs.LineCache.{has_value}
+use Rattle.ec_trace.specs.kept.LineCache.{has_value}
 use Rattle.ec_trace.proofs.CacheLemmas.{opens}
 use Rattle.ec_trace.proofs.line_cache.LineCache.store_part.Goals as goal
 

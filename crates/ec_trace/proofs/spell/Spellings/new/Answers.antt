@@ -1,6 +1,6 @@
 use Rattle.std.proofs.Common.{◌-◌, drop, subst, sym, arith}
 use Rattle.ec_heading.specs.Spelling.{NameTable}
-use Rattle.ec_trace.specs.WordTables.{Spells}
+use Rattle.ec_trace.specs.kept.WordTables.{Spells}
 use Rattle.ec_heading.proofs.shared.Places.{drop_before, none_inside}
 use Rattle.ec_trace.proofs.spell.Spellings.new.Goals as goal
 

@@ -1,5 +1,5 @@
 use Rattle.std.proofs.Common.{drop}
-use Rattle.ec_trace.specs.WordTables.{Spells}
+use Rattle.ec_trace.specs.kept.WordTables.{Spells}
 use Rattle.ec_trace.proofs.spell.Spellings.new.Given as goal
 
 abbrev pub invariant-loop-place : goal.invariant-loop-place

@@ -2,7 +2,7 @@ use Rattle.std.proofs.Common.{reverse, sym, subst}
 use Rattle.ec_database.specs.Following.{FollowsDatabase}
 use Rattle.ec_database.specs.Tries.{ListsTries, AreUndisturbed}
 use Rattle.evc_engine.specs.Audits.{IsAudited}
-use Rattle.evc_engine.specs.Walks.{EndsFor}
+use Rattle.evc_engine.specs.kept.Walks.{EndsFor}
 use Rattle.evc_engine.specs.declared.audit_result.AuditResult.TheVariants.{Versions}
 use Rattle.evc_engine.proofs.Findings.{of_database}
 use Rattle.evc_engine.proofs.walked.Auditing.finish.Goals as goal

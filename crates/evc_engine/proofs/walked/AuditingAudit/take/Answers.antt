@@ -1,6 +1,6 @@
 use Rattle.std.proofs.Common.{subst}
 use Rattle.evc_engine.specs.declared.walked.Auditing.{Auditing}
-use Rattle.evc_engine.specs.Walks.{AuditsOn}
+use Rattle.evc_engine.specs.kept.Walks.{AuditsOn}
 use Rattle.evc_engine.proofs.WalkLemmas.{takes_deliveries, takes_versions, takes_balance, takes_both}
 use Rattle.evc_engine.proofs.walked.AuditingAudit.take.Goals as goal
 

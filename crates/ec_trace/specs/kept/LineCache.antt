@@ -7,7 +7,7 @@ use Rattle.ec_core.specs.declared.act.Entry.{Entry}
 use Rattle.ec_text.specs.Words.{IsWord, number_in_word}
 use Rattle.ec_trace.specs.Entries.{parse_reply, entry_of}
 use Rattle.ec_heading.specs.EntryWords.{NameTable}
-use Rattle.ec_trace.specs.PackedBytes.{key_bytes}
+use Rattle.ec_trace.specs.kept.PackedBytes.{key_bytes}
 use Rattle.ec_trace.specs.declared.line_cache.CachedPrefix.{CachedPrefix}
 
 -- a line is this prefix, a space, and a word

@@ -16,7 +16,7 @@ use Rattle.ec_runner.specs.declared.summary.LastRequest.{LastRequest}
 use Rattle.ec_runner.specs.declared.holding.Next.{Next}
 use Rattle.ec_runner.specs.declared.holding.Next.TheVariants as next
 use Rattle.ec_runner.specs.WorkerStates.{is_waiting, worker_state}
-use Rattle.ec_runner.specs.WaitQueues.{waits_on}
+use Rattle.ec_runner.specs.kept.WaitQueues.{waits_on}
 use Rattle.ec_runner.specs.Works.{IsStop}
 use Rattle.ec_runner.specs.BoardModel.{BoardModel, after_entry, with_worker_state, wait_of, is_stopped, answer_on}
 

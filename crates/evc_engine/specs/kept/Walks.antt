@@ -14,7 +14,7 @@ use Rattle.ec_heading.specs.declared.group.Group.TheVariants as groups
 use Rattle.ec_heading.specs.Groups.{FitsGroup}
 use Rattle.ec_heading.specs.HeadingModel.{HeadingModel}
 use Rattle.ec_heading.specs.Rules.{semaphores_of}
-use Rattle.ec_walk.specs.Each.{Each}
+use Rattle.ec_walk.specs.kept.Each.{Each}
 use Rattle.evc_engine.specs.declared.walked.Auditing.{Auditing}
 use Rattle.evc_engine.specs.declared.walked.BothAudit.{BothAudit}
 use Rattle.evc_engine.specs.declared.walked.Auditing.TheVariants as audits

@@ -8,7 +8,7 @@ use Rattle.ec_semaphore.specs.Auditing.{PairsOn, RepresentsPairs}
 use Rattle.ec_semaphore.specs.Shapes.{Semaphore}
 use Rattle.ec_heading.specs.declared.group.Group.{Group}
 use Rattle.ec_heading.specs.declared.group.Group.TheVariants as groups
-use Rattle.ec_walk.specs.Each.{EachFrom, Each}
+use Rattle.ec_walk.specs.kept.Each.{EachFrom, Each}
 use Rattle.ec_draw.specs.declared.window.Window.{Window}
 use Rattle.ec_draw.specs.declared.balance.BothState.{BothState}
 use Rattle.ec_draw.specs.declared.finding.GroupState.{GroupState}

@@ -10,8 +10,8 @@ use Rattle.calls_distinct.specs.declared.zone.GroupedCall.{GroupedCall}
 use Rattle.calls_distinct.specs.declared.verdict.Verdict.{Verdict}
 use Rattle.calls_distinct.specs.declared.verdict.Verdict.TheVariants.{Ordered, Faulty}
 use Rattle.calls_distinct.specs.Cells.{IsStore, Shows}
-use Rattle.calls_distinct.specs.Zones.{begun_calls}
-use Rattle.calls_distinct.specs.Groups.{AreGrouped}
+use Rattle.calls_distinct.specs.kept.Zones.{begun_calls}
+use Rattle.calls_distinct.specs.kept.Groups.{AreGrouped}
 
 abbrev pub calls_of_history : List Event → ℕ → List Call
 calls_of_history past t = begun_calls (completed_calls past) (pending_calls past) t

@@ -42,7 +42,7 @@ use Rattle.ec_draw.specs.Balances.{pad, list_if_moment}
 use Rattle.ec_draw.specs.Shades.{TriesModel, RepresentsTries, begins_list, list_start, shade, shades_in}
 use Rattle.ec_draw.specs.Shades.{shades_shown, span_at, is_in}
 use Rattle.ec_draw.specs.Arrows.{MovesModel, RepresentsMoves, is_move, places}
-use Rattle.ec_draw.specs.Findings.{group_of, FindsOn}
+use Rattle.ec_draw.specs.kept.Findings.{group_of, FindsOn}
 
 -- BALANCES
 

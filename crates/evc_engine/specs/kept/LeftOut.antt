@@ -16,7 +16,7 @@ use Rattle.ec_semaphore.proofs.shared.LeftOut.{counted_off, counted_going, pairi
 use Rattle.ec_walk.specs.Walks.{is_on}
 use Rattle.evc_engine.specs.declared.walked.Auditing.{Auditing}
 use Rattle.evc_engine.specs.declared.walked.Auditing.TheVariants as audits
-use Rattle.evc_engine.specs.Walks.{group_of, AuditsOn}
+use Rattle.evc_engine.specs.kept.Walks.{group_of, AuditsOn}
 
 -- an audit stays right after an entry whose call is not on its group
 pub audits_off : (start now : Auditing) (x : Entry) (past : List Entry) → is_on (group_of start) (op_at x past) ≡ false → AuditsOn start now past → AuditsOn start now (x ∷ past)

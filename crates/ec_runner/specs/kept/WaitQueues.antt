@@ -1,7 +1,7 @@
 -- Queues of waiters: those of one eventcount, by ascending threshold and, at equal thresholds, by
 -- worker.
 use Rattle.std.specs.Prelude.{◌≡◌, ℕ, ◌+◌, ◌≤◌, Bool, true, false, ◌==◌, ◌&&◌, ◌||◌, not, nat_le, nat_lt, ◌⊎◌, List, [], ◌∷◌, length, filter, suc, slice_set, Option, Some, None, if◌then◌else◌, slice_get}
-use Rattle.ec_core.specs.Fields.{map_at}
+use Rattle.ec_core.specs.kept.Fields.{map_at}
 use Rattle.ec_runner.specs.declared.wait_queue.Waiter.{Waiter}
 use Rattle.ec_runner.specs.declared.worker_state.WorkerState.{WorkerState}
 use Rattle.ec_runner.specs.declared.worker_state.WorkerState.TheVariants.{Gone, Running, Waiting}

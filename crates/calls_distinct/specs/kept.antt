@@ -1,0 +1,4 @@
+pub mod Groups
+pub mod Records
+pub mod Verdicts
+pub mod Zones

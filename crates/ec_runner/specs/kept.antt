@@ -1,0 +1,4 @@
+pub mod Holds
+pub mod LogComparison
+pub mod Machines
+pub mod WaitQueues

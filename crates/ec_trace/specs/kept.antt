@@ -1,0 +1,3 @@
+pub mod LineCache
+pub mod PackedBytes
+pub mod WordTables
