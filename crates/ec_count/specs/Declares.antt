@@ -1,7 +1,5 @@
 -- What is declared at an id, and what stays declared if more is added.
-use Rattle.std.specs.Prelude.{◌≡◌, ℕ, ◌+◌, ◌<◌, Bool, true, false, ◌&&◌, nat_eq, List, [], ◌∷◌, ◌++◌, Some, slice_get}
-use Rattle.std.specs.Option.{option_map_or}
-use Rattle.std.specs.Cmp.Lexicographic.{pointwise}
+use Rattle.std.specs.Prelude.{◌≡◌, ℕ, ◌+◌, ◌<◌, true, List, [], ◌∷◌, ◌++◌, Some, slice_get}
 use Rattle.ec_count.specs.declared.setup.Rights.{Rights}
 use Rattle.ec_count.specs.declared.setup.Access.{Access}
 use Rattle.ec_count.specs.Tables.{Tables}
@@ -27,13 +25,3 @@ pub record KeepsObjects (old new : Tables) : Type 0 where
   pub events : (e : ℕ) (r : Rights) → slice_get old.events e ≡ Some r → slice_get new.events e ≡ Some r
   pub takers : (q : ℕ) (take : List ℕ) → slice_get old.takers q ≡ Some take → slice_get new.takers q ≡ Some take
   pub cells : (x : ℕ) (a : Access) → slice_get old.cells x ≡ Some a → slice_get new.cells x ≡ Some a
-
--- whether a row of a table has exactly these lists; the row of an eventcount must also be fixed
-abbrev pub has_fixed_event_row : Tables → ℕ → List ℕ → List ℕ → Bool
-has_fixed_event_row t e signal observe = option_map_or (λ (r : Rights). pointwise nat_eq r.signal signal && pointwise nat_eq r.observe observe && r.fixed) (slice_get t.events e) false
-
-abbrev pub has_sequencer_row : Tables → ℕ → List ℕ → Bool
-has_sequencer_row t q take = option_map_or (λ (ws : List ℕ). pointwise nat_eq ws take) (slice_get t.takers q) false
-
-abbrev pub has_cell_row : Tables → ℕ → List ℕ → List ℕ → Bool
-has_cell_row t x write read = option_map_or (λ (a : Access). pointwise nat_eq a.write write && pointwise nat_eq a.read read) (slice_get t.cells x) false

@@ -20,7 +20,8 @@ use Rattle.ec_order.specs.declared.numbers.Numbers.{Numbers}
 use Rattle.ec_order.specs.declared.verdict.Verdict.TheVariants.{Good, Missing, Repeated, OutOfOrder, WrongReply, WrongPoint}
 use Rattle.ec_order.specs.Calls.{finished_calls}
 use Rattle.ec_order.specs.Points.{point_of}
-use Rattle.ec_order.specs.Sequential.{SequentialState, zero_state, update_at, sequential_reply, sequential_after, sequential_after_all, reply_in, after_in, AreFew}
+use Rattle.ec_order.specs.Sequential.{SequentialState, zero_state, update_at, sequential_reply, sequential_after, sequential_after_all}
+use Rattle.ec_order.specs.kept.Numbered.{reply_in, after_in, AreFew}
 use Rattle.ec_order.specs.Orders.{calls_in}
 use Rattle.ec_order.specs.Index.{IsIndex, point_in}
 use Rattle.ec_order.specs.Verdicts.{IsSound, AreSound, IsVerdict, IsLate}

@@ -1,12 +1,11 @@
 -- The sequential object: one number for each eventcount, sequencer and cell, all 0 at first, if each call is one
 -- step.
-use Rattle.std.specs.Prelude.{◌≡◌, ℕ, ◌+◌, ◌≤◌, ◌==◌, nat_le, List, [], ◌∷◌, Option, Some, None, slice_index, slice_set, if◌then◌else◌}
+use Rattle.std.specs.Prelude.{◌≡◌, ℕ, ◌+◌, ◌==◌, nat_le, List, [], ◌∷◌, Option, Some, None, if◌then◌else◌}
 use Rattle.ec_core.specs.declared.act.Act.{Act}
 use Rattle.ec_core.specs.declared.act.Act.TheVariants.{Advance, Read, Await, Go, Ticket, Put, Get, Hand}
 use Rattle.ec_core.specs.declared.act.Reply.{Reply}
 use Rattle.ec_core.specs.declared.act.Reply.TheVariants.{Done, Number}
 use Rattle.ec_order.specs.declared.call.Call.{Call}
-use Rattle.ec_order.specs.declared.numbers.Numbers.{Numbers}
 
 -- the number of each eventcount, sequencer and cell
 pub record SequentialState : Type 0 where
@@ -52,26 +51,3 @@ sequential_after_all s (c ∷ cs) = sequential_after_all (sequential_after s c.o
 abbrev pub IsLegalHistory : SequentialState → List Call → Type 0
 IsLegalHistory s [] = Unit {0}
 IsLegalHistory s (c ∷ cs) = (sequential_reply s c.op ≡ Some c.reply) × IsLegalHistory (sequential_after s c.op) cs
-
--- THE OBJECT AS THE CHECK REPRESENTS IT, in three tables
-
-abbrev pub reply_in : Numbers → Act → Option Reply
-reply_in n (Advance e) = Some Done
-reply_in n (Read e) = Some (Number (slice_index n.events e))
-reply_in n (Await e v) = if nat_le v (slice_index n.events e) then Some (Number (slice_index n.events e)) else None
-reply_in n (Ticket q) = Some (Number (slice_index n.sequencers q))
-reply_in n (Put x v) = Some Done
-reply_in n (Get x) = Some (Number (slice_index n.cells x))
-reply_in n (Hand e b) = Some Done
-reply_in n Go = None
-
-abbrev pub after_in : Numbers → Act → Numbers
-after_in n (Advance e) = record n { events = slice_set n.events e (slice_index n.events e + 1) }
-after_in n (Ticket q) = record n { sequencers = slice_set n.sequencers q (slice_index n.sequencers q + 1) }
-after_in n (Put x v) = record n { cells = slice_set n.cells x v }
-after_in n _ = n
-
--- each number is at most i
-pub record AreFew (n : Numbers) (i : ℕ) : Type 0 where
-  pub events : (k : ℕ) → slice_index n.events k ≤ i
-  pub sequencers : (k : ℕ) → slice_index n.sequencers k ≤ i

@@ -1,1 +1,2 @@
 pub mod BitVec
+pub mod Numbered

@@ -2,7 +2,7 @@
 ghost use Rattle.std.specs.Prelude.{◌≡◌, ℕ, ◌+◌, ◌<◌, ◌^◌, Some, length, slice_get, slice_index};
 ghost use Rattle.std.specs.Bool.{Decides};
 ghost use Rattle.ec_core.specs.kept.Fields.{IsNamed};
-ghost use Rattle.ec_order.specs.Sequential.{AreFew, reply_in, after_in};
+ghost use Rattle.ec_order.specs.kept.Numbered.{AreFew, reply_in, after_in};
 
 use crate::Call;
 use ec_core::{Act, Reply};

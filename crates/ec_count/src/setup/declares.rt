@@ -1,6 +1,7 @@
 //! What is declared at an id.
 ghost use Rattle.std.specs.Prelude.{IsTrue, ◌↔◌, ◌≡◌};
-ghost use Rattle.ec_count.specs.Declares.{DeclaresFixedEvent, DeclaresSequencer, DeclaresCells, has_fixed_event_row, has_sequencer_row, has_cell_row};
+ghost use Rattle.ec_count.specs.Declares.{DeclaresFixedEvent, DeclaresSequencer, DeclaresCells};
+ghost use Rattle.ec_count.specs.kept.Rows.{has_fixed_event_row, has_sequencer_row, has_cell_row};
 
 use super::Setup;
 use crate::{CellId, EventId, SeqId, WorkerId};
