@@ -3,7 +3,7 @@ ghost use Rattle.ec_count.specs.Reserved.{is_name, is_name_byte, is_reserved};
 ghost use Rattle.std.specs.List.{list_all, list_any};
 ghost use Rattle.std.specs.Prelude.{◌≡◌, bytes_eq};
 
-/// The words that the texts use themselves, which can't be names.
+/// The reserved words: those of traces and scripts, which can't be names.
 static RESERVED: [&str; 36] = [
     "advance",
     "await",
