@@ -1,8 +1,8 @@
 //! What is written on a good text.
 ghost use Rattle.std.specs.Prelude.{◌≡◌, ◌++◌, IfOk, length};
 ghost use Rattle.ec_text.specs.Puts.{Puts};
-ghost use Rattle.evc_explain_engine.specs.Good.{begins_call, calls_in, calls_of, good_script, good_text};
-ghost use Rattle.evc_explain_engine.specs.Good.{is_invocation, ordered_text};
+ghost use Rattle.evc_explain_engine.specs.Good.{begins_call, calls_in, calls_of, good_script};
+ghost use Rattle.evc_explain_engine.specs.Good.{good_text, is_invocation, ordered_text};
 ghost use Rattle.ec_script.specs.Outcome.{shown_plan};
 
 use crate::explanation::{put_count, whole};

@@ -9,7 +9,7 @@ ghost use Rattle.evc_explain_engine.specs.Histories.{event_line};
 ghost use Rattle.evc_explain_engine.specs.Good.{ordered_text};
 ghost use Rattle.evc_explain_engine.specs.Histories.{if_before, ends_before, named_positions, few, seen_at};
 ghost use Rattle.evc_explain_engine.specs.Histories.{seen_lines, count_reason, ticket_reason, cell_reason};
-ghost use Rattle.evc_explain_engine.specs.Histories.{distinct_reason, reason_for, IsRefusalText, ExplainsRefused};
+ghost use Rattle.evc_explain_engine.specs.Histories.{distinct_reason, reason_for, ExplainsRefused};
 ghost use Rattle.evc_explain_engine.specs.Histories.{ExplainsUndecided, Judges, ExplainsHistories, IsUnread};
 
 use crate::explanation::{Explanation, explain_finding, whole};
@@ -169,30 +169,8 @@ fn reason_for(fault: &Fault) -> &'static [u8]
     }
 }
 
-/// Returns what is written on a history without linearization: the certificate, the lines that it
-/// names, and why they leave no linearization.
-fn refusal_text(
-    alloc: Global,
-    text: &[u8],
-    read: &Read<'_>,
-    refusal: &Refusal,
-) -> Result<Vec<u8>, AllocError>
-    ensures { IfOk result
-        (λ bytes. IsRefusalText text.now read.now.number read.now.recording refusal.now
-        bytes.items) }
-{
-    let positions = named_positions(alloc, refusal)?;
-    let mut bytes = Vec::new(alloc);
-    let mut out = Output::new(&mut bytes);
-    report_refusal(alloc, &mut out, read, refusal)?;
-    put_seen_lines(&mut out, text, read, few(positions.as_slice()));
-    out.put(reason_for(&refusal.fault));
-    let done = out.finish();
-    out.into_writer();
-    whole(bytes, done)
-}
-
-/// Returns the explanation of a history that has no linearization.
+/// Returns the explanation of a history that has no linearization: the certificate, the lines that
+/// it names, and why they leave no linearization.
 fn explain_refused(
     alloc: Global,
     text: &[u8],
@@ -202,7 +180,15 @@ fn explain_refused(
     requires { IsRefused read.now.recording refusal.now }
     ensures { IfOk result (ExplainsRefused text.now read.now.number read.now.recording) }
 {
-    let more = refusal_text(alloc, text, read, refusal)?;
+    let positions = named_positions(alloc, refusal)?;
+    let mut bytes = Vec::new(alloc);
+    let mut out = Output::new(&mut bytes);
+    report_refusal(alloc, &mut out, read, refusal)?;
+    put_seen_lines(&mut out, text, read, few(positions.as_slice()));
+    out.put(reason_for(&refusal.fault));
+    let done = out.finish();
+    out.into_writer();
+    let more = whole(bytes, done)?;
     let finding = finding_at(Cause::NoOrder, event_line(read, refusal.at), 0);
     explain_finding(alloc, &finding, more.as_slice(), text)
 }
