@@ -14,7 +14,7 @@ use Rattle.calls_cells.specs.declared.outcome.Undecided as cells
 use Rattle.calls_verdict.specs.declared.verdict.Refusal.{Refusal}
 use Rattle.calls_report.specs.declared.certificate.Certificate.{Certificate}
 use Rattle.calls_report.specs.Certificates.{IsCertificate}
-use Rattle.calls_report.specs.Refusals.{SiteModel, line_of, is_cell, certificate_text}
+use Rattle.calls_report.specs.Refusals.{SiteModel, line_of, by_store, certificate_text}
 
 -- FAULTS OF TEXTS
 
@@ -96,8 +96,8 @@ SaysRefusal n r refusal old new =
 
 unfoldable pub repeated_words : SiteModel → List ℕ
 repeated_words s =
-    if is_cell s then codes " was put more than once, and the puts of lines "
-    else codes " was written more than once, and the writes of lines "
+    by_store s (codes " was put more than once, and the puts of lines ")
+    (codes " was written more than once, and the writes of lines ")
 
 abbrev pub undecided_text : SiteModel → ℕ → List ℕ
 undecided_text s value =

@@ -65,20 +65,13 @@ remarks_of r = flat_map (remark_on r) (pending_calls (reverse r.events))
 
 -- AS TEXT
 
-abbrev pub remark_head : SiteModel → PendingCall → List ℕ
-remark_head s o = codes "remark: line " ++ line_of s o.first ++ codes ": "
-
-abbrev pub awaits_text : SiteModel → PendingCall → ℕ → List ℕ
-awaits_text s o v =
-    worker_word s.heading o.worker ++ codes " awaits " ++ event_word s.heading o.object
-    ++ codes " " ++ decimal v
-
-abbrev pub sure_text : ℕ → List ℕ
-sure_text n = codes ", and the count was surely " ++ decimal n ++ codes "\n"
-
+-- the line of the invocation, who awaits what, and the count that was surely reached
 abbrev pub remark_text : SiteModel → Remark → List ℕ
 remark_text s m =
-    remark_head s m.call ++ awaits_text s m.call m.threshold ++ sure_text m.count
+    codes "remark: line " ++ line_of s m.call.first ++ codes ": "
+    ++ worker_word s.heading m.call.worker ++ codes " awaits "
+    ++ event_word s.heading m.call.object ++ codes " " ++ decimal m.threshold
+    ++ codes ", and the count was surely " ++ decimal m.count ++ codes "\n"
 
 -- the lines of these remarks
 abbrev pub remark_lines : SiteModel → List Remark → List ℕ

@@ -195,11 +195,10 @@ pub fn report_certificate<N: Write>(
 fn put_repeated_words<W: Write>(out: &mut Output<'_, W>, site: &Site<'_>)
     ensures { Puts out.old out.new (repeated_words site.now) }
 {
-    if site.speaker.is_cell(site.object) {
-        out.put(b" was put more than once, and the puts of lines ");
-    } else {
-        out.put(b" was written more than once, and the writes of lines ");
-    }
+    out.put(site.by_store(
+        b" was put more than once, and the puts of lines ",
+        b" was written more than once, and the writes of lines ",
+    ));
 }
 
 /// Puts that an object is not decided, and a value.

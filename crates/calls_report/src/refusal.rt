@@ -445,7 +445,7 @@ impl<'a> Site<'a> {
     }
 
     /// Returns the words for a cell, or those for a database.
-    fn by_store(&self, cell: &'static [u8], database: &'static [u8]) -> &'static [u8]
+    pub(crate) fn by_store(&self, cell: &'static [u8], database: &'static [u8]) -> &'static [u8]
         ensures { result.now ≡ by_store self.now cell.now database.now }
     {
         if self.speaker.is_cell(self.object) {

@@ -4,8 +4,8 @@ ghost use Rattle.std.specs.List.{cons_option};
 ghost use Rattle.ec_text.specs.Puts.{Puts, IsWrittenOut};
 ghost use Rattle.calls_core.specs.Histories.{pending_calls};
 ghost use Rattle.calls_report.specs.Notes.{site_of};
-ghost use Rattle.calls_report.specs.Remarks.{remark_by, remark_on, remarks_of, remark_head};
-ghost use Rattle.calls_report.specs.Remarks.{awaits_text, sure_text, remark_text, remark_lines};
+ghost use Rattle.calls_report.specs.Remarks.{remark_by, remark_on, remarks_of, remark_text};
+ghost use Rattle.calls_report.specs.Remarks.{remark_lines};
 
 use crate::counting::pending_after;
 use crate::notes::site_of;
@@ -70,47 +70,22 @@ pub(crate) fn remarks_of(alloc: Global, recording: &Recording) -> Result<Vec<Rem
     Ok(remarks)
 }
 
-/// Puts the number of the line of an invocation.
-fn put_head<W: Write>(out: &mut Output<'_, W>, site: &Site<'_>, call: &PendingCall)
-    ensures { Puts out.old out.new (remark_head site.now call.now) }
-{
-    out.put(b"remark: line ");
-    site.put_line(out, call.first);
-    out.put(b": ");
-}
-
-/// Puts who awaits what.
-fn put_awaits<W: Write>(
-    out: &mut Output<'_, W>,
-    site: &Site<'_>,
-    call: &PendingCall,
-    threshold: usize,
-)
-    ensures { Puts out.old out.new (awaits_text site.now call.now threshold) }
-{
-    site.put_worker(out, call.worker);
-    out.put(b" awaits ");
-    site.put_event(out, call.object);
-    out.put(b" ");
-    out.put_number(threshold as u64);
-}
-
-/// Puts the count that was surely reached.
-fn put_sure<W: Write>(out: &mut Output<'_, W>, count: usize)
-    ensures { Puts out.old out.new (sure_text count) }
-{
-    out.put(b", and the count was surely ");
-    out.put_number(count as u64);
-    out.put(b"\n");
-}
-
-/// Puts a remark.
+/// Puts a remark: the line of the invocation, who awaits what, and the count that was surely
+/// reached.
 fn put_remark<W: Write>(out: &mut Output<'_, W>, site: &Site<'_>, remark: &Remark)
     ensures { Puts out.old out.new (remark_text site.now remark.now) }
 {
-    put_head(out, site, &remark.call);
-    put_awaits(out, site, &remark.call, remark.threshold);
-    put_sure(out, remark.count);
+    out.put(b"remark: line ");
+    site.put_line(out, remark.call.first);
+    out.put(b": ");
+    site.put_worker(out, remark.call.worker);
+    out.put(b" awaits ");
+    site.put_event(out, remark.call.object);
+    out.put(b" ");
+    out.put_number(remark.threshold as u64);
+    out.put(b", and the count was surely ");
+    out.put_number(remark.count as u64);
+    out.put(b"\n");
 }
 
 /// Puts remarks.

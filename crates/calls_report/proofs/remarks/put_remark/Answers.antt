@@ -3,5 +3,21 @@ use Rattle.calls_report.proofs.remarks.put_remark.Goals as goal
 
 pub returns : goal.returns
 returns g c =
-    puts_then _ _ _ _ _ (puts_then _ _ _ _ _ c.put_head.ensures c.put_awaits.ensures)
-    c.put_sure.ensures
+    puts_then _ _ _ _ _
+    (puts_then _ _ _ _ _
+    (puts_then _ _ _ _ _
+    (puts_then _ _ _ _ _
+    (puts_then _ _ _ _ _
+    (puts_then _ _ _ _ _
+    (puts_then _ _ _ _ _
+    (puts_then _ _ _ _ _
+    (puts_then _ _ _ _ _
+    (puts_then _ _ _ _ _ c.put.ensures.puts c.put_line.ensures) c.put-2.ensures.puts)
+    c.put_worker.ensures)
+    c.put-3.ensures.puts)
+    c.put_event.ensures)
+    c.put-4.ensures.puts)
+    c.put_number.ensures.puts)
+    c.put-5.ensures.puts)
+    c.put_number-2.ensures.puts)
+    c.put-6.ensures.puts
