@@ -13,8 +13,8 @@ use Rattle.evc_engine.proofs.walked.BothAudit.finish.Goals as goal
 pub returns : goal.returns
 returns c = λ h entries g e.
     let counts = counts_both h entries g c.args.self e in
-    let parts = c.so_far-parts.ensures ∙ counts.parts in
-    let small = subst (λ (b : Balance). b.initial + b.ups < 2 ^ 64) (sym c.so_far-parts.ensures) counts.small in
+    let parts = c.so_far-parts.ensures.value ∙ counts.parts in
+    let small = subst (λ (b : Balance). b.initial + b.ups < 2 ^ 64) (sym c.so_far-parts.ensures.value) counts.small in
     let found = of_both h entries g c.args.self
     (λ common all s. Follow (both_rules common (is_semaphore_sequencer common all)) (reverse entries)
     × ((c.so_far-parts.result ≡ balance_parts s (reverse entries)) × (c.balance_of.result ≡ balance_of c.so_far-parts.result) × (c.in_ok-list.list.items ≡ pairs_of common all entries)))
