@@ -90,17 +90,22 @@ def unchanged(folder, together):
 
 
 def bystander(folder, together):
-    """Returns the end of the name of a function that none of these mutants affects: not a theorem, whose proof may be
-    long, and none that calls what they change, directly or through others. If possible it is of a file that uses no
-    other of the crate, so that it doesn't depend on a type which a mutant changes."""
+    """Returns the end of the name of a function that none of these mutants affects: none that calls what they change,
+    directly or through others. If possible it is no theorem, whose proof may be long, and of a file that uses no other of
+    the crate, so that it doesn't depend on a type which a mutant changes."""
     taken = {name for mutant in together for name in taken_by(folder, replace(mutant, twin=0))}
     changed = {file for mutant in together for file, _, _ in mutant.pairs}
     texts = texts_of_functions(folder)
     touched = callers(texts, {it.split("::")[-1].strip() for it in taken})
     found = [
-        (2 * (it.file in changed) + bool(re.search(r"\b(crate|super)::", read(folder, it.file))), it.name)
+        (
+            4 * text.endswith("{}")
+            + 2 * (it.file in changed)
+            + bool(re.search(r"\b(crate|super)::", read(folder, it.file))),
+            it.name,
+        )
         for it, text in texts
-        if not it.is_of_trait and it.name.split("::")[-1] not in touched and not text.endswith("{}")
+        if not it.is_of_trait and it.name.split("::")[-1] not in touched
     ]
     if not found:
         crate = os.path.basename(folder)
