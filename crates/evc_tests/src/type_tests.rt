@@ -4,18 +4,21 @@ use ec_count::{EventId, Members, WorkerId};
 use std::test::Fail;
 
 #[test]
-fn another_worker_in_a_place(rt: HostRuntime) {
+fn another_worker_for_one(rt: HostRuntime) {
     let first = WorkerId::new(0).unwrap();
     let second = WorkerId::new(1).unwrap();
     let third = WorkerId::new(2).unwrap();
     let mut members = Members::new(&[first, second]);
-    members.replace(1, third);
+    members.replace(second, third);
     assert!(rt; members.get(0) == Some(first) && members.get(1) == Some(third));
     assert!(rt; members.len() == 2 && !members.contains(second));
     assert!(rt; members.contains(first) && members.contains(third));
-    members.replace(0, second);
+    members.replace(first, second);
     assert!(rt; members == Members::new(&[second, third]));
     assert!(rt; members.contains(second) && !members.contains(first));
+    members.replace(second, third);
+    members.replace(first, third);
+    assert!(rt; members == Members::new(&[second, third]));
 }
 
 /// Returns the entry that a list has at an index.
