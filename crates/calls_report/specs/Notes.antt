@@ -11,6 +11,8 @@ use Rattle.calls_text.specs.Faults.{kind_number, kind_name}
 use Rattle.calls_text.specs.Recordings.{RecordingModel}
 use Rattle.calls_text.specs.Spelling.{store_word, numbers_of_value, numbers_after_spaces}
 use Rattle.calls_cells.specs.declared.outcome.Undecided as cells
+use Rattle.calls_verdict.specs.declared.verdict.Cause as why
+use Rattle.calls_verdict.specs.declared.verdict.Cause.TheVariants.{Values, Unfound}
 use Rattle.calls_verdict.specs.declared.verdict.Refusal.{Refusal}
 use Rattle.calls_report.specs.declared.certificate.Certificate.{Certificate}
 use Rattle.calls_report.specs.Certificates.{IsCertificate}
@@ -111,6 +113,13 @@ abbrev pub overlap_text : SiteModel → cells.Undecided → List ℕ
 overlap_text s u =
     line_of s u.first.first ++ codes " and " ++ line_of s u.second.first ++ codes " overlap\n"
 
--- the note on a cell or a database that is not decided
-abbrev pub undecided_note : SiteModel → cells.Undecided → List ℕ
-undecided_note s u = repeated_text s u.value ++ overlap_text s u
+-- that nothing was found of a buffer from a position on
+abbrev pub unfound_text : SiteModel → ℕ → List ℕ
+unfound_text s n =
+    store_word s.heading s.object ++ codes " is not decided from line " ++ line_of s n
+    ++ codes " on\n"
+
+-- the note on an object that is not decided
+abbrev pub undecided_note : SiteModel → why.Cause → List ℕ
+undecided_note s (Values u) = repeated_text s u.value ++ overlap_text s u
+undecided_note s (Unfound n) = unfound_text s n

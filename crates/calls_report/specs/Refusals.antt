@@ -11,6 +11,8 @@ use Rattle.calls_core.specs.declared.history.Reply.{Reply}
 use Rattle.calls_core.specs.declared.history.Reply.TheVariants as replies
 use Rattle.calls_core.specs.declared.history.Call.{Call}
 use Rattle.calls_tickets.specs.Faults.{number}
+use Rattle.calls_buffers.specs.declared.fault.Fault as items
+use Rattle.calls_buffers.specs.declared.fault.Fault.TheVariants as item
 use Rattle.calls_text.specs.Recordings.{first_sequencer, first_group}
 use Rattle.calls_text.specs.Spelling.{event_word, sequencer_word, group_word, store_word, numbers_of_value}
 use Rattle.calls_text.specs.Spelling.{numbers_after_spaces}
@@ -257,6 +259,32 @@ none_left_text s (c ∷ cs) =
     ++ by_store s (codes ", but no put is left for it") (codes ", but no write is left for it")
     ++ by_text s cs
 
+-- BUFFERS
+
+abbrev pub item_words : items.Fault → List ℕ
+item_words (item.Unproduced c) = codes "more of an item was consumed than produced: line"
+item_words (item.Overfull c) = codes "more was produced than there is room for: line"
+item_words (item.Crowded c) = codes "more items were left than there is room for: line"
+item_words (item.Overtaken p c) = codes "an item was consumed before an earlier one: lines"
+item_words (item.Passed p c) = codes "an item was consumed before all earlier ones: lines"
+item_words (item.Squeezed q p) = codes "more items were inside than there is room for: lines"
+
+abbrev pub two_lines : SiteModel → Call → Call → List ℕ
+two_lines s a b = line_text s a.last ++ line_text s b.last
+
+-- the lines of the responses that show it
+abbrev pub item_lines : SiteModel → items.Fault → List ℕ
+item_lines s (item.Unproduced c) = line_text s c.last
+item_lines s (item.Overfull c) = line_text s c.last
+item_lines s (item.Crowded c) = line_text s c.last
+item_lines s (item.Overtaken p c) = two_lines s p c
+item_lines s (item.Passed p c) = two_lines s p c
+item_lines s (item.Squeezed q p) = two_lines s q p
+
+-- what the calls of a buffer show
+abbrev pub item_text : SiteModel → items.Fault → List ℕ
+item_text s f = item_words f ++ item_lines s f
+
 -- ANY CERTIFICATE
 
 abbrev pub certificate_text : SiteModel → Certificate → List ℕ
@@ -275,3 +303,4 @@ certificate_text s (shows.Nowhere c) = nowhere_text s c
 certificate_text s (shows.Stale c d) = stale_text s c d
 certificate_text s (shows.Alternate a b c d) = alternate_text s a b c d
 certificate_text s (shows.NoneLeft gets) = none_left_text s gets.now
+certificate_text s (shows.Items f) = item_text s f

@@ -17,7 +17,8 @@ ghost use Rattle.calls_report.specs.Refusals.{stored_text, stale_text, line_text
 ghost use Rattle.calls_report.specs.Refusals.{values_text, alternate_text, response_lines};
 ghost use Rattle.calls_report.specs.Refusals.{by_text, called_words, ends_second, none_left_text};
 ghost use Rattle.calls_report.specs.Refusals.{certificate_text, raised_text, unordered_text};
-ghost use Rattle.calls_report.specs.Refusals.{no_unit_text};
+ghost use Rattle.calls_report.specs.Refusals.{no_unit_text, item_words, two_lines, item_lines};
+ghost use Rattle.calls_report.specs.Refusals.{item_text};
 
 use crate::certificate::{Certificate, ticket_number};
 use crate::words::Speaker;
@@ -114,6 +115,23 @@ fn threshold(op: Op) -> usize
     match op {
         Op::Await(n) => n,
         _ => 0,
+    }
+}
+
+/// Returns what the calls of a buffer show.
+fn item_words(fault: &calls_buffers::Fault) -> &'static [u8]
+    ensures { result.now ≡ item_words fault.now }
+{
+    match *fault {
+        calls_buffers::Fault::Unproduced(_) => b"more of an item was consumed than produced: line",
+        calls_buffers::Fault::Overfull(_) => b"more was produced than there is room for: line",
+        calls_buffers::Fault::Crowded(_) => b"more items were left than there is room for: line",
+        calls_buffers::Fault::Overtaken(_, _) =>
+            b"an item was consumed before an earlier one: lines",
+        calls_buffers::Fault::Passed(_, _) =>
+            b"an item was consumed before all earlier ones: lines",
+        calls_buffers::Fault::Squeezed(_, _) =>
+            b"more items were inside than there is room for: lines",
     }
 }
 
@@ -601,6 +619,36 @@ impl<'a> Site<'a> {
         }
     }
 
+    /// Puts the lines of two responses.
+    fn put_two_lines<W: Write>(&self, out: &mut Output<'_, W>, a: &Call, b: &Call)
+        ensures { Puts out.old out.new (two_lines self.now a.now b.now) }
+    {
+        self.put_next_line(out, a.last);
+        self.put_next_line(out, b.last);
+    }
+
+    /// Puts the lines of the responses that show a fault of a buffer.
+    fn put_item_lines<W: Write>(&self, out: &mut Output<'_, W>, fault: &calls_buffers::Fault)
+        ensures { Puts out.old out.new (item_lines self.now fault.now) }
+    {
+        match fault {
+            calls_buffers::Fault::Unproduced(c) => self.put_next_line(out, c.last),
+            calls_buffers::Fault::Overfull(c) => self.put_next_line(out, c.last),
+            calls_buffers::Fault::Crowded(c) => self.put_next_line(out, c.last),
+            calls_buffers::Fault::Overtaken(p, c) => self.put_two_lines(out, p, c),
+            calls_buffers::Fault::Passed(p, c) => self.put_two_lines(out, p, c),
+            calls_buffers::Fault::Squeezed(q, p) => self.put_two_lines(out, q, p),
+        }
+    }
+
+    /// Puts what the calls of a buffer show.
+    fn put_items<W: Write>(&self, out: &mut Output<'_, W>, fault: &calls_buffers::Fault)
+        ensures { Puts out.old out.new (item_text self.now fault.now) }
+    {
+        out.put(item_words(fault));
+        self.put_item_lines(out, fault);
+    }
+
     /// Puts a certificate.
     pub(crate) fn put_certificate<W: Write>(
         &self,
@@ -632,6 +680,7 @@ impl<'a> Site<'a> {
             Certificate::Stale(earlier, call) => self.put_stale(out, &earlier, &call),
             Certificate::Alternate(a, b, c, d) => self.put_alternate(out, &a, &b, &c, &d),
             Certificate::NoneLeft(gets) => self.put_none_left(out, gets),
+            Certificate::Items(fault) => self.put_items(out, &fault),
         }
     }
 }

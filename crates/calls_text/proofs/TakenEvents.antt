@@ -397,6 +397,8 @@ one_given h c (ops.P i) n takes list = cc
 one_given h c (ops.V i) n takes list = cc
 one_given h c (ops.PBoth i j) n takes list = cc
 one_given h c (ops.Put v) n takes list = cc
+one_given h c (ops.Produce v) n takes list = cc
+one_given h c ops.Consume n takes list = eqb-true _ _ takes
 
 few_of : (h : HeadingModel) (k : ℕ) → HasHeaderTree h → numbers_of h k ≤ 256
 few_of h k has =
@@ -418,6 +420,8 @@ few_given h c (ops.P i) n has takes = cc
 few_given h c (ops.V i) n has takes = cc
 few_given h c (ops.PBoth i j) n has takes = cc
 few_given h c (ops.Put v) n has takes = cc
+few_given h c (ops.Produce v) n has takes = cc
+few_given h c ops.Consume n has takes = omega (arith, eqb-true n 1 takes)
 
 -- THE LIMIT
 
@@ -437,6 +441,8 @@ not_over limit h c (ops.V i) ns small takes keeps = refl
 not_over limit h c (ops.PBoth i j) ns small takes keeps = refl
 not_over limit h c (ops.Put v) ns small takes keeps = refl
 not_over limit h c ops.Get ns small takes keeps = refl
+not_over limit h c (ops.Produce v) ns small takes keeps = refl
+not_over limit h c ops.Consume ns small takes keeps = refl
 
 never_over : (limit : ℕ) (op : Op) (ws : List (List ℕ))
     → (is_over limit op answers.Done ws ≡ false) × (is_over limit op answers.Timeout ws ≡ false)
@@ -449,6 +455,8 @@ never_over limit (ops.V i) ws = (refl, refl)
 never_over limit (ops.PBoth i j) ws = (refl, refl)
 never_over limit (ops.Put v) ws = (refl, refl)
 never_over limit ops.Get ws = (refl, refl)
+never_over limit (ops.Produce v) ws = (refl, refl)
+never_over limit ops.Consume ws = (refl, refl)
 
 -- THE REPLIES, ONE BY ONE
 

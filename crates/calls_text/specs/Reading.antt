@@ -193,12 +193,15 @@ abbrev pub takes_done : Op → Bool
 takes_done ops.Read = false
 takes_done ops.Ticket = false
 takes_done ops.Get = false
+takes_done ops.Consume = false
 takes_done _ = true
 
 abbrev pub takes_timeout : Op → Bool
 takes_timeout (ops.Await n) = true
 takes_timeout (ops.P i) = true
 takes_timeout (ops.PBoth i j) = true
+takes_timeout (ops.Produce v) = true
+takes_timeout ops.Consume = true
 takes_timeout _ = false
 
 abbrev pub takes_numbers : HeadingModel → PendingCall → Op → ℕ → Bool
@@ -206,6 +209,7 @@ takes_numbers h o ops.Read n = n == 1
 takes_numbers h o (ops.Await v) n = n == 1
 takes_numbers h o ops.Ticket n = n == 1
 takes_numbers h o ops.Get n = n == numbers_of h o.object
+takes_numbers h o ops.Consume n = n == 1
 takes_numbers h o _ n = false
 
 abbrev pub is_suited : HeadingModel → PendingCall → ReplyWord → List (List ℕ) → Bool
