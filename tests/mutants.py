@@ -57,11 +57,12 @@ def tried_group(folder, name, together, log_of):
 
 def judged_together(folder, name, together, log_of):
     """Judges mutants by one check of the crate with all of them. If it says nothing at all, for example because a text
-    can't be parsed, each half of them is checked."""
+    can't be parsed, or if together they affect each function, each half of them is checked."""
     if len(together) == 1:
         together = [replace(together[0], twin=0)]
-    log = log_of(name, all_applied(folder, together), ends_of(folder, together))
-    if len(together) > 1 and not proves_unchanged(folder, together, log):
+    can_be_read = len(together) == 1 or unaffected(folder, together)
+    log = log_of(name, all_applied(folder, together), ends_of(folder, together)) if can_be_read else ""
+    if len(together) > 1 and not (can_be_read and proves_unchanged(folder, together, log)):
         half = len(together) // 2
         yield from judged_together(folder, f"{name}a", together[:half], log_of)
         yield from judged_together(folder, f"{name}b", together[half:], log_of)
@@ -90,14 +91,24 @@ def unchanged(folder, together):
 
 
 def bystander(folder, together):
-    """Returns the end of the name of a function that none of these mutants affects: none that calls what they change,
-    directly or through others. If possible it is no theorem, whose proof may be long, and of a file that uses no other of
-    the crate, so that it doesn't depend on a type which a mutant changes."""
+    """Returns the end of the name of a function that none of these mutants affects. If possible it is no theorem, whose
+    proof may be long, and of a file that uses no other of the crate, so that it doesn't depend on a type which a mutant
+    changes."""
+    found = unaffected(folder, together)
+    if not found:
+        crate = os.path.basename(folder)
+        raise BadMutant(f"{crate}: each function has to do with one of the mutants {together[0].name} ..")
+    return min(found, key=lambda it: it[0])[1]
+
+
+def unaffected(folder, together):
+    """Returns the ends of the names of the functions that call nothing of what these mutants change, neither directly nor
+    through others, each with how much speaks against it as a bystander."""
     taken = {name for mutant in together for name in taken_by(folder, replace(mutant, twin=0))}
     changed = {file for mutant in together for file, _, _ in mutant.pairs}
     texts = texts_of_functions(folder)
     touched = callers(texts, {it.split("::")[-1].strip() for it in taken})
-    found = [
+    return [
         (
             4 * text.endswith("{}")
             + 2 * (it.file in changed)
@@ -107,10 +118,6 @@ def bystander(folder, together):
         for it, text in texts
         if not it.is_of_trait and it.name.split("::")[-1] not in touched
     ]
-    if not found:
-        crate = os.path.basename(folder)
-        raise BadMutant(f"{crate}: each function has to do with one of the mutants {together[0].name} ..")
-    return min(found, key=lambda it: it[0])[1]
 
 
 def ends_of(folder, together):
