@@ -38,8 +38,8 @@ enum evc_status {
     EVC_STATUS_NO_ROOM = 3,
     /* malloc gave nothing. No text was written; of evc_calls_check those of some first histories may have been. */
     EVC_STATUS_NO_MEMORY = 4,
-    /* Of evc_calls_check: a history is not decided. The notes say which cell, and why; the texts of the histories
-     * before it were written. Of a monitor: a cell or a database is called. */
+    /* Of evc_calls_check: a history is not decided. The notes say which object, and why; the texts of the histories
+     * before it were written. Of a monitor: a cell, a database or a buffer is called. */
     EVC_STATUS_NOT_DECIDED = 5
 };
 

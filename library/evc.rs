@@ -16,7 +16,7 @@ pub enum Fault {
     /// Or the input is no history of calls, or one is not linearizable.
     /// The note says which, with a line feed at its end. (Of histories of calls the remarks on those before it come first.)
     Refused(String),
-    /// A history of calls is not decided: the note says which cell, and why.
+    /// A history of calls is not decided: the note says which object, and why.
     NotDecided(String),
     NoMemory,
 }

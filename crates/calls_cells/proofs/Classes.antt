@@ -6,7 +6,7 @@ use Rattle.std.proofs.lemmas.Bool.{cases_lt, cases_eq, leb-true}
 use Rattle.calls_core.specs.declared.history.Kind.TheVariants.{Cell}
 use Rattle.calls_core.specs.declared.history.Op.{Op}
 use Rattle.calls_core.specs.declared.history.Op.TheVariants.{Advance, Read, Await, Ticket, P, V}
-use Rattle.calls_core.specs.declared.history.Op.TheVariants.{PBoth, Put, Get}
+use Rattle.calls_core.specs.declared.history.Op.TheVariants.{PBoth, Put, Get, Produce, Consume}
 use Rattle.calls_core.specs.declared.history.Event.{Event}
 use Rattle.calls_core.specs.declared.history.PendingCall.{PendingCall}
 use Rattle.calls_core.specs.declared.history.Call.{Call}
@@ -88,6 +88,8 @@ put_or_not Ticket = inr (λ v e. cc)
 put_or_not (P i) = inr (λ v e. cc)
 put_or_not (V i) = inr (λ v e. cc)
 put_or_not (PBoth i j) = inr (λ v e. cc)
+put_or_not (Produce w) = inr (λ v e. cc)
+put_or_not Consume = inr (λ v e. cc)
 
 module _ (calls : List PendingCall) where
   both_or_not : (o p : PendingCall) → Contains calls o → Contains calls p

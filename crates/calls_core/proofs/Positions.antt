@@ -270,6 +270,20 @@ histories_have_calls kinds past h =
       };
     }
 
+pub calls_of_later : (kind : Kind) (done : List Call) (pending : List PendingCall) (t u : ℕ) → t ≤ u
+    → AreCallsOf kind done pending t → AreCallsOf kind done pending u
+calls_of_later kind done pending t u le h = record {
+  completed = each_weaker (IsCallOf kind t) (IsCallOf kind u) (λ d k.
+      record { lasts = k.lasts; early = omega (arith, k.early); fits = k.fits; suits = k.suits })
+      done h.completed;
+  falls = h.falls;
+  apart = h.apart;
+  early = each_weaker (Early t) (Early u) (λ o e. omega arith) pending h.early;
+  rises = h.rises;
+  fits = h.fits;
+  pending_apart = h.pending_apart;
+}
+
 pub calls_later : (kinds : List Kind) (done : List Call) (pending : List PendingCall) (t u : ℕ)
     → t ≤ u → AreCalls kinds done pending t → AreCalls kinds done pending u
 calls_later kinds done pending t u le h = record {

@@ -4,10 +4,10 @@ use Rattle.std.specs.Prelude.{◌≡◌, ℕ, ◌+◌, ◌<◌, ◌≤◌, ◌==
 use Rattle.std.specs.Prelude.{Option, Some, None, if◌then◌else◌, slice_get}
 use Rattle.calls_core.specs.declared.history.Kind.{Kind}
 use Rattle.calls_core.specs.declared.history.Kind.TheVariants.{Eventcount, Sequencer, Semaphores}
-use Rattle.calls_core.specs.declared.history.Kind.TheVariants.{Cell, Database}
+use Rattle.calls_core.specs.declared.history.Kind.TheVariants.{Cell, Database, Buffer}
 use Rattle.calls_core.specs.declared.history.Op.{Op}
 use Rattle.calls_core.specs.declared.history.Op.TheVariants.{Advance, Read, Await, Ticket, P, V}
-use Rattle.calls_core.specs.declared.history.Op.TheVariants.{PBoth, Put, Get}
+use Rattle.calls_core.specs.declared.history.Op.TheVariants.{PBoth, Put, Get, Produce, Consume}
 use Rattle.calls_core.specs.declared.history.Reply.{Reply}
 use Rattle.calls_core.specs.declared.history.Reply.TheVariants.{Done, Number, Timeout}
 use Rattle.calls_core.specs.declared.history.Action.{Action}
@@ -88,6 +88,8 @@ Takes (Some Cell) (Put v) = Unit {0}
 Takes (Some Cell) Get = Unit {0}
 Takes (Some (Database n)) (Put v) = Unit {0}
 Takes (Some (Database n)) Get = Unit {0}
+Takes (Some (Buffer n)) (Produce v) = Unit {0}
+Takes (Some (Buffer n)) Consume = Unit {0}
 Takes _ _ = ⊥
 
 -- whether a reply is of the form that the operation returns
@@ -103,6 +105,10 @@ Suits (PBoth i j) Done = Unit {0}
 Suits (PBoth i j) Timeout = Unit {0}
 Suits (Put v) Done = Unit {0}
 Suits Get (Number n) = Unit {0}
+Suits (Produce v) Done = Unit {0}
+Suits (Produce v) Timeout = Unit {0}
+Suits Consume (Number n) = Unit {0}
+Suits Consume Timeout = Unit {0}
 Suits _ _ = ⊥
 
 -- a worker that invokes has no pending call, and the object has the operation; a worker that

@@ -4,10 +4,10 @@ use Rattle.std.specs.Prelude.{Option, Some, None, if◌then◌else◌, slice_get
 use Rattle.std.specs.List.{AllPairs, filter}
 use Rattle.std.specs.List.Sorted.{IsPermutation}
 use Rattle.calls_core.specs.declared.history.Kind.{Kind}
-use Rattle.calls_core.specs.declared.history.Kind.TheVariants.{Eventcount, Semaphores}
+use Rattle.calls_core.specs.declared.history.Kind.TheVariants.{Eventcount, Semaphores, Buffer}
 use Rattle.calls_core.specs.declared.history.Op.{Op}
 use Rattle.calls_core.specs.declared.history.Op.TheVariants.{Advance, Read, Await, Ticket, P, V}
-use Rattle.calls_core.specs.declared.history.Op.TheVariants.{PBoth, Put, Get}
+use Rattle.calls_core.specs.declared.history.Op.TheVariants.{PBoth, Put, Get, Produce, Consume}
 use Rattle.calls_core.specs.declared.history.Reply.{Reply}
 use Rattle.calls_core.specs.declared.history.Reply.TheVariants.{Done, Number, Timeout}
 use Rattle.calls_core.specs.declared.history.Event.{Event}
@@ -16,7 +16,10 @@ use Rattle.calls_core.specs.declared.history.Call.{Call}
 use Rattle.calls_core.specs.Histories.{clock, completion, pending_calls, completed_calls}
 
 -- THE SEQUENTIAL SPECIFICATION: each object has numbers m, and each call is one step. An
--- eventcount, a sequencer, a cell and a database use only m 0; semaphores have one each.
+-- eventcount, a sequencer, a cell and a database use only m 0; semaphores have one each. A buffer
+-- has room for m 0 items; m 1 were consumed and m 2 were produced so far, and m (3 + k) is the one
+-- that was produced after k others. So it holds the items k with m 1 ≤ k and k < m 2, the oldest
+-- first.
 
 -- whether an object with the numbers m may give this reply
 abbrev pub Gives : (ℕ → ℕ) → Op → Reply → Type 0
@@ -35,6 +38,12 @@ Gives m (PBoth i j) (Number n) = ⊥
 Gives m (PBoth i j) Timeout = Unit {0}
 Gives m (Put v) r = r ≡ Done
 Gives m Get r = r ≡ Number (m 0)
+Gives m (Produce v) Done = m 2 < m 1 + m 0
+Gives m (Produce v) (Number n) = ⊥
+Gives m (Produce v) Timeout = Unit {0}
+Gives m Consume Done = ⊥
+Gives m Consume (Number n) = (m 1 < m 2) × (n ≡ m (3 + m 1))
+Gives m Consume Timeout = Unit {0}
 
 -- f with x at k
 abbrev pub set_at : {X : Type 0} → ℕ → X → (ℕ → X) → ℕ → X
@@ -48,6 +57,8 @@ after m (P i) Done = set_at i (m i - 1) m
 after m (V i) r = set_at i (m i + 1) m
 after m (PBoth i j) Done = set_at i (m i - 1) (set_at j (m j - 1) m)
 after m (Put v) r = set_at 0 v m
+after m (Produce v) Done = set_at 2 (m 2 + 1) (set_at (3 + m 2) v m)
+after m Consume (Number n) = set_at 1 (m 1 + 1) m
 after m _ _ = m
 
 -- whether the calls of one object, one after another from the numbers m on, are a legal sequential
@@ -60,6 +71,7 @@ IsLegalHistory m (c ∷ cs) = Gives m c.op c.reply × IsLegalHistory (after m c.
 abbrev pub initial : Option Kind → ℕ → ℕ
 initial (Some (Eventcount n)) i = n
 initial (Some (Semaphores units)) i = slice_index units.items i
+initial (Some (Buffer n)) i = if i == 0 then n else 0
 initial _ i = 0
 
 abbrev pub start : List Kind → ℕ → ℕ → ℕ

@@ -18,6 +18,8 @@ pub enum Kind {
     /// This many cells, written and read at once. Its value is a list of numbers, and one number
     /// encodes the list: equal lists have the same code, and the list of zeros has the code 0.
     Database(usize),
+    /// A queue of at most this many items: what was produced first is consumed first.
+    Buffer(usize),
 }
 
 /// What a call asks of its object.
@@ -42,19 +44,23 @@ pub enum Op {
     Put(usize),
     /// Returns the value of a cell, or the numbers of a database at once.
     Get,
+    /// Puts an item at the end of a buffer, once there is room for one.
+    Produce(usize),
+    /// Takes the first item out of a buffer and returns it, once there is one.
+    Consume,
 }
 
 /// What a call returns.
 #[derive(Clone, Copy, Debug, Default, PartialEq, Eq)]
 pub enum Reply {
-    /// Nothing: the reply to an advance, a p, a v and a put, and to an await that returns no
-    /// number.
+    /// Nothing: the reply to an advance, a p, a v, a put and a produce, and to an await that
+    /// returns no number.
     #[default]
     Done,
     /// The number.
     Number(usize),
     /// Nothing, since the call gave up. For an await, the count was below its threshold at some
-    /// moment of the call. For a p, it says nothing about the units.
+    /// moment of the call. For a p, a produce and a consume, it says nothing.
     Timeout,
 }
 

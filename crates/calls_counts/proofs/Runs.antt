@@ -7,7 +7,7 @@ use Rattle.calls_core.proofs.Filters.{each_from_all}
 use Rattle.calls_core.specs.declared.history.Kind.TheVariants.{Eventcount}
 use Rattle.calls_core.specs.declared.history.Op.{Op}
 use Rattle.calls_core.specs.declared.history.Op.TheVariants.{Advance, Read, Await, Ticket, P, V}
-use Rattle.calls_core.specs.declared.history.Op.TheVariants.{PBoth, Put, Get}
+use Rattle.calls_core.specs.declared.history.Op.TheVariants.{PBoth, Put, Get, Produce, Consume}
 use Rattle.calls_core.specs.declared.history.Reply.{Reply}
 use Rattle.calls_core.specs.declared.history.Reply.TheVariants.{Done, Number, Timeout}
 use Rattle.calls_core.specs.declared.history.Call.{Call}
@@ -38,6 +38,8 @@ step_to start m (V i) r cs fits rest h = absurd fits
 step_to start m (PBoth i j) r cs fits rest h = absurd fits
 step_to start m (Put v) r cs fits rest h = absurd fits
 step_to start m Get r cs fits rest h = absurd fits
+step_to start m (Produce v) r cs fits rest h = absurd fits
+step_to start m Consume r cs fits rest h = absurd fits
 
 step_from : (start : ℕ) (m : ℕ → ℕ) (op : Op) (r : Reply) (cs : List Call)
     → Takes (Some (Eventcount start)) op
@@ -55,6 +57,8 @@ step_from start m (V i) r cs fits rest h = absurd fits
 step_from start m (PBoth i j) r cs fits rest h = absurd fits
 step_from start m (Put v) r cs fits rest h = absurd fits
 step_from start m Get r cs fits rest h = absurd fits
+step_from start m (Produce v) r cs fits rest h = absurd fits
+step_from start m Consume r cs fits rest h = absurd fits
 
 pub sequential : (start : ℕ) (cs : List Call) → Each (CallFits (Eventcount start)) cs → (m : ℕ → ℕ)
     → IsCountRun (m 0) cs → IsLegalHistory m cs

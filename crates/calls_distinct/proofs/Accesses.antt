@@ -2,10 +2,10 @@
 use Rattle.std.proofs.Common.{◌≡◌, ℕ, ◌<◌, ◌≤◌, List, [], ◌∷◌, Option, Some, None, refl, arith}
 use Rattle.calls_core.specs.declared.history.Kind.{Kind}
 use Rattle.calls_core.specs.declared.history.Kind.TheVariants.{Eventcount, Sequencer, Semaphores}
-use Rattle.calls_core.specs.declared.history.Kind.TheVariants.{Cell, Database}
+use Rattle.calls_core.specs.declared.history.Kind.TheVariants.{Cell, Database, Buffer}
 use Rattle.calls_core.specs.declared.history.Op.{Op}
 use Rattle.calls_core.specs.declared.history.Op.TheVariants.{Advance, Read, Await, Ticket, P, V}
-use Rattle.calls_core.specs.declared.history.Op.TheVariants.{PBoth, Put, Get}
+use Rattle.calls_core.specs.declared.history.Op.TheVariants.{PBoth, Put, Get, Produce, Consume}
 use Rattle.calls_core.specs.declared.history.Action.{Action}
 use Rattle.calls_core.specs.declared.history.Action.TheVariants.{Invoke, Respond}
 use Rattle.calls_core.specs.declared.history.Event.{Event}
@@ -46,6 +46,7 @@ pub takes_access : (kind : Kind) (op : Op) → IsStore kind → Takes (Some kind
 takes_access (Eventcount n) op s h = absurd s
 takes_access Sequencer op s h = absurd s
 takes_access (Semaphores units) op s h = absurd s
+takes_access (Buffer n) op s h = absurd s
 takes_access Cell (Put v) s h = tt
 takes_access Cell Get s h = tt
 takes_access Cell Advance s h = absurd h
@@ -55,6 +56,8 @@ takes_access Cell Ticket s h = absurd h
 takes_access Cell (P i) s h = absurd h
 takes_access Cell (V i) s h = absurd h
 takes_access Cell (PBoth i j) s h = absurd h
+takes_access Cell (Produce v) s h = absurd h
+takes_access Cell Consume s h = absurd h
 takes_access (Database n) (Put v) s h = tt
 takes_access (Database n) Get s h = tt
 takes_access (Database n) Advance s h = absurd h
@@ -64,11 +67,14 @@ takes_access (Database n) Ticket s h = absurd h
 takes_access (Database n) (P i) s h = absurd h
 takes_access (Database n) (V i) s h = absurd h
 takes_access (Database n) (PBoth i j) s h = absurd h
+takes_access (Database n) (Produce v) s h = absurd h
+takes_access (Database n) Consume s h = absurd h
 
 pub zero_first : (kind : Kind) → IsStore kind → initial (Some kind) 0 ≡ 0
 zero_first (Eventcount n) s = absurd s
 zero_first Sequencer s = absurd s
 zero_first (Semaphores units) s = absurd s
+zero_first (Buffer n) s = absurd s
 zero_first Cell s = refl
 zero_first (Database n) s = refl
 
@@ -99,6 +105,7 @@ access_taken : (kind : Kind) (op : Op) → IsStore kind → IsAccess op → Take
 access_taken (Eventcount n) op s h = absurd s
 access_taken Sequencer op s h = absurd s
 access_taken (Semaphores units) op s h = absurd s
+access_taken (Buffer n) op s h = absurd s
 access_taken Cell (Put v) s h = tt
 access_taken Cell Get s h = tt
 access_taken Cell Advance s h = absurd h
@@ -108,6 +115,8 @@ access_taken Cell Ticket s h = absurd h
 access_taken Cell (P i) s h = absurd h
 access_taken Cell (V i) s h = absurd h
 access_taken Cell (PBoth i j) s h = absurd h
+access_taken Cell (Produce v) s h = absurd h
+access_taken Cell Consume s h = absurd h
 access_taken (Database n) (Put v) s h = tt
 access_taken (Database n) Get s h = tt
 access_taken (Database n) Advance s h = absurd h
@@ -117,6 +126,8 @@ access_taken (Database n) Ticket s h = absurd h
 access_taken (Database n) (P i) s h = absurd h
 access_taken (Database n) (V i) s h = absurd h
 access_taken (Database n) (PBoth i j) s h = absurd h
+access_taken (Database n) (Produce v) s h = absurd h
+access_taken (Database n) Consume s h = absurd h
 
 same_next : (k j : Kind) → IsStore k → IsStore j → (action : Action) (o : Option PendingCall)
     → IsNextOf k action o → IsNextOf j action o

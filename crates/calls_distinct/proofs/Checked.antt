@@ -9,7 +9,7 @@ use Rattle.std.proofs.lemmas.List.Elements.{All-contains, Contains-append_left}
 use Rattle.std.proofs.lemmas.List.Elements.{Contains-append_right, Contains-append_cases}
 use Rattle.calls_core.specs.declared.history.Op.{Op}
 use Rattle.calls_core.specs.declared.history.Op.TheVariants.{Advance, Read, Await, Ticket, P, V}
-use Rattle.calls_core.specs.declared.history.Op.TheVariants.{PBoth, Put, Get}
+use Rattle.calls_core.specs.declared.history.Op.TheVariants.{PBoth, Put, Get, Produce, Consume}
 use Rattle.calls_core.specs.declared.history.Reply.{Reply}
 use Rattle.calls_core.specs.declared.history.Reply.TheVariants.{Done}
 use Rattle.calls_core.specs.declared.history.PendingCall.{PendingCall}
@@ -119,6 +119,8 @@ put_suits Ticket e = (let no : false ≡ true = e in cc)
 put_suits (P i) e = tt
 put_suits (V i) e = tt
 put_suits (PBoth i j) e = tt
+put_suits (Produce v) e = tt
+put_suits Consume e = (let no : false ≡ true = e in cc)
 
 pub gets_parts : (v : ℕ) (c : Call) → gets v c ≡ true → (is_put c.op ≡ false) × (value c ≡ v)
 gets_parts v c e =

@@ -11,7 +11,7 @@ use Rattle.std.proofs.lemmas.List.Elements.{Contains-append_right}
 use Rattle.std.proofs.lemmas.List.Sorted.{Contains-permutation, All-permutation}
 use Rattle.calls_core.specs.declared.history.Op.{Op}
 use Rattle.calls_core.specs.declared.history.Op.TheVariants.{Advance, Read, Await, Ticket, P, V}
-use Rattle.calls_core.specs.declared.history.Op.TheVariants.{PBoth, Put, Get}
+use Rattle.calls_core.specs.declared.history.Op.TheVariants.{PBoth, Put, Get, Produce, Consume}
 use Rattle.calls_core.specs.declared.history.Reply.{Reply}
 use Rattle.calls_core.specs.declared.history.Reply.TheVariants.{Done}
 use Rattle.calls_core.specs.declared.history.PendingCall.{PendingCall}
@@ -55,6 +55,8 @@ one_step m Ticket r s g = absurd s
 one_step m (P i) r s g = absurd s
 one_step m (V i) r s g = absurd s
 one_step m (PBoth i j) r s g = absurd s
+one_step m (Produce v) r s g = absurd s
+one_step m Consume r s g = absurd s
 
 run_stores : (m : ℕ → ℕ) (cs : List Call) → Each Access cs → IsLegalHistory m cs → Stores (m 0) cs
 run_stores m [] h run = tt
@@ -75,6 +77,8 @@ put_is v Ticket r p e = p
 put_is v (P i) r p e = p
 put_is v (V i) r p e = p
 put_is v (PBoth i j) r p e = p
+put_is v (Produce w) r p e = p
+put_is v Consume r p e = p
 
 pub put_call_is : (v : ℕ) (c : Call) → is_put c.op ≡ true → value c ≡ v → put_call v c ≡ true
 put_call_is v c p e = put_is v c.op c.reply p e
@@ -94,6 +98,8 @@ put_value v Ticket r p = (let no : false ≡ true = p in cc)
 put_value v (P i) r p = (let no : false ≡ true = p in cc)
 put_value v (V i) r p = (let no : false ≡ true = p in cc)
 put_value v (PBoth i j) r p = (let no : false ≡ true = p in cc)
+put_value v (Produce w) r p = (let no : false ≡ true = p in cc)
+put_value v Consume r p = (let no : false ≡ true = p in cc)
 
 -- if v is not stored and not put, no call has this value
 never : (v s k : ℕ) (d : Call) (cs : List Call) → s ≢ v → count_by (put_call v) cs ≡ 0 → Stores s cs

@@ -9,7 +9,7 @@ use Rattle.std.proofs.lemmas.List.Elements.{All-contains}
 use Rattle.std.proofs.lemmas.List.Sorted.{Contains-permutation}
 use Rattle.calls_core.specs.declared.history.Op.{Op}
 use Rattle.calls_core.specs.declared.history.Op.TheVariants.{Advance, Read, Await, Ticket, P, V}
-use Rattle.calls_core.specs.declared.history.Op.TheVariants.{PBoth, Put, Get}
+use Rattle.calls_core.specs.declared.history.Op.TheVariants.{PBoth, Put, Get, Produce, Consume}
 use Rattle.calls_core.specs.declared.history.Reply.{Reply}
 use Rattle.calls_core.specs.declared.history.Reply.TheVariants.{Done, Number, Timeout}
 use Rattle.calls_core.specs.declared.history.PendingCall.{PendingCall}
@@ -43,6 +43,8 @@ one_gives m Ticket r a u h = absurd a
 one_gives m (P i) r a u h = absurd a
 one_gives m (V i) r a u h = absurd a
 one_gives m (PBoth i j) r a u h = absurd a
+one_gives m (Produce v) r a u h = absurd a
+one_gives m Consume r a u h = absurd a
 
 no_get : (c : Call) → is_put c.op ≡ true → gets 0 c ≡ false
 no_get c p = elim (either (gets 0 c)) [

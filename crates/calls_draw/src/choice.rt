@@ -30,7 +30,7 @@ pub(crate) struct Selection {
 fn group_chosen(heading: &Heading, place: usize) -> Option<SelectedItem> {
     match heading.groups().get(place) {
         Some(Group::Semaphore(_)) => Some(SelectedItem::Semaphore(place)),
-        Some(Group::Database(_)) => {
+        Some(Group::Database(_) | Group::Buffer(_)) => {
             Some(SelectedItem::Objects(first_group(heading).saturating_add(place), 1))
         }
         _ => None,

@@ -260,6 +260,7 @@ pub(crate) fn panels_of(alloc: Global, picture: &Picture<'_>) -> Result<Vec<Pane
                 add_semaphores(alloc, &mut panels, picture, object, units.len())?;
                 continue;
             }
+            Kind::Buffer(_) => continue,
         };
         add_panel(alloc, &mut panels, picture, subject)?;
     }

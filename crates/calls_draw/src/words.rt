@@ -17,6 +17,8 @@ pub(crate) fn class_of(op: Op) -> &'static [u8] {
         Op::V(_) => b"v",
         Op::Put(_) => b"put",
         Op::Get => b"get",
+        Op::Produce(_) => b"produce",
+        Op::Consume => b"consume",
     }
 }
 

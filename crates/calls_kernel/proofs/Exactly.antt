@@ -12,7 +12,7 @@ use Rattle.ec_core.specs.Counts.{is_advance, is_ticket}
 use Rattle.ec_order.specs.Laws.{OrderByPointsIsGood}
 use Rattle.calls_core.specs.declared.history.Op.{Op}
 use Rattle.calls_core.specs.declared.history.Op.TheVariants.{Advance, Read, Await, Ticket, P, V}
-use Rattle.calls_core.specs.declared.history.Op.TheVariants.{PBoth, Put, Get}
+use Rattle.calls_core.specs.declared.history.Op.TheVariants.{PBoth, Put, Get, Produce, Consume}
 use Rattle.calls_core.specs.declared.history.Reply.{Reply}
 use Rattle.calls_core.specs.declared.history.Reply.TheVariants.{Done, Number, Timeout}
 use Rattle.calls_core.specs.declared.history.Event.{Event}
@@ -58,6 +58,8 @@ gave_up m Ticket h = cc
 gave_up m (V i) h = cc
 gave_up m (Put v) h = cc
 gave_up m Get h = cc
+gave_up m (Produce v) h = refl
+gave_up m Consume h = refl
 
 step_without : (n : ℕ → ℕ → ℕ) (c : Call) (cs : List Call) (reply : Reply) → c.reply ≡ reply
     → Gives (n c.object) c.op reply

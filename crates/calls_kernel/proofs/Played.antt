@@ -13,7 +13,7 @@ use Rattle.ec_order.specs.declared.call.Call.{Call as FinishedCall}
 use Rattle.ec_order.specs.Calls.{finished_calls}
 use Rattle.calls_core.specs.declared.history.Op.{Op}
 use Rattle.calls_core.specs.declared.history.Op.TheVariants.{Advance, Read, Await, Ticket, P, V}
-use Rattle.calls_core.specs.declared.history.Op.TheVariants.{PBoth, Put, Get}
+use Rattle.calls_core.specs.declared.history.Op.TheVariants.{PBoth, Put, Get, Produce, Consume}
 use Rattle.calls_core.specs.declared.history.Reply.{Reply}
 use Rattle.calls_core.specs.declared.history.Call.{Call}
 use Rattle.calls_core.specs.Lists.{Each}
@@ -58,6 +58,9 @@ module _ (t : Tables) (d : IsDeclared t) where
   one_played past w k (V i) reply first last n left = λ clear granted fits gives. no_call fits.call
   one_played past w k (PBoth i j) reply first last n left =
       λ clear granted fits gives. no_call fits.call
+  one_played past w k (Produce v) reply first last n left =
+      λ clear granted fits gives. no_call fits.call
+  one_played past w k Consume reply first last n left = λ clear granted fits gives. no_call fits.call
 
   -- these calls were made after the history so far
   record ArePlayed (past : List Entry) (cs : List Call) : Type 0 where

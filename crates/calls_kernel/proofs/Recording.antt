@@ -23,7 +23,7 @@ use Rattle.ec_order.specs.Sequential.{sequential_after, IsLegalHistory}
 use Rattle.ec_order.specs.Laws.{OrderByPointsIsGood}
 use Rattle.calls_core.specs.declared.history.Op.{Op}
 use Rattle.calls_core.specs.declared.history.Op.TheVariants.{Advance, Read, Await, Ticket, P, V}
-use Rattle.calls_core.specs.declared.history.Op.TheVariants.{PBoth, Put, Get}
+use Rattle.calls_core.specs.declared.history.Op.TheVariants.{PBoth, Put, Get, Produce, Consume}
 use Rattle.calls_core.specs.declared.history.Reply.{Reply}
 use Rattle.calls_core.specs.declared.history.Reply.TheVariants.{Done, Number, Timeout}
 use Rattle.calls_core.specs.declared.history.Event.{Event}
@@ -178,6 +178,8 @@ module _ (t : Tables) where
     steps_of (P i) reply given fits h reply_as = cc
     steps_of (V i) reply given fits h reply_as = cc
     steps_of (PBoth i j) reply given fits h reply_as = cc
+    steps_of (Produce v) reply given fits h reply_as = cc
+    steps_of Consume reply given fits h reply_as = cc
 
   -- a call of the kernel, and the call that was recorded of it
   pub record Pair : Type 0 where

@@ -9,10 +9,10 @@ use Rattle.std.proofs.lemmas.List.{map-append}
 use Rattle.std.proofs.lemmas.List.Sorted.{All-permutation, IsPermutation-map, IsPermutation-sym}
 use Rattle.calls_core.specs.declared.history.Kind.{Kind}
 use Rattle.calls_core.specs.declared.history.Kind.TheVariants.{Eventcount, Sequencer, Semaphores}
-use Rattle.calls_core.specs.declared.history.Kind.TheVariants.{Cell, Database}
+use Rattle.calls_core.specs.declared.history.Kind.TheVariants.{Cell, Database, Buffer}
 use Rattle.calls_core.specs.declared.history.Op.{Op}
 use Rattle.calls_core.specs.declared.history.Op.TheVariants.{Advance, Read, Await, Ticket, P, V}
-use Rattle.calls_core.specs.declared.history.Op.TheVariants.{PBoth, Put, Get}
+use Rattle.calls_core.specs.declared.history.Op.TheVariants.{PBoth, Put, Get, Produce, Consume}
 use Rattle.calls_core.specs.declared.history.Reply.{Reply}
 use Rattle.calls_core.specs.declared.history.Reply.TheVariants.{Done, Number, Timeout}
 use Rattle.calls_core.specs.declared.history.Action.{Action}
@@ -64,6 +64,8 @@ takes_store (Some Sequencer) Ticket h = refl
 takes_store (Some (Semaphores units)) (P i) h = refl
 takes_store (Some (Semaphores units)) (V i) h = refl
 takes_store (Some (Semaphores units)) (PBoth i j) h = refl
+takes_store (Some (Buffer n)) (Produce v) h = refl
+takes_store (Some (Buffer n)) Consume h = refl
 takes_store kind op h = absurd h
 
 -- the numbers n of an object whose values are renamed, if it had m
@@ -93,6 +95,16 @@ gives_same m n (PBoth i j) (Number k) e g = g
 gives_same m n (PBoth i j) Timeout e g = tt
 gives_same m n (Put v) r e g = g
 gives_same m n Get r e g = g ∙ ap Number (sym (e 0))
+gives_same m n (Produce v) Done e g = (let lt : m 2 < m 1 + m 0 = g in
+    omega (arith, e 0, e 1, e 2))
+gives_same m n (Produce v) (Number k) e g = g
+gives_same m n (Produce v) Timeout e g = tt
+gives_same m n Consume Done e g = g
+gives_same m n Consume (Number k) e g = (
+  (let lt : m 1 < m 2 = g.0 in omega (arith, e 1, e 2)),
+  g.1 ∙ sym (e (3 + m 1)) ∙ ap (λ i. n (3 + i)) (sym (e 1)),
+)
+gives_same m n Consume Timeout e g = tt
 
 set_same : (i x y : ℕ) (m n : ℕ → ℕ) → y ≡ x → ((j : ℕ) → n j ≡ m j) → (j : ℕ)
     → set_at i y n j ≡ set_at i x m j
@@ -101,6 +113,13 @@ set_same i x y m n same e j = elim (i == j) as (λ b. cond b y (n j) ≡ cond b 
       same
   | false ↦ e j
 ]
+
+put_same : (v : ℕ) (m n : ℕ → ℕ) → ((j : ℕ) → n j ≡ m j) → (j : ℕ)
+    → set_at 2 (n 2 + 1) (set_at (3 + n 2) v n) j ≡ set_at 2 (m 2 + 1) (set_at (3 + m 2) v m) j
+put_same v m n e j =
+    ap (λ k. set_at 2 (k + 1) (set_at (3 + k) v n) j) (e 2)
+    ∙ set_same 2 (m 2 + 1) (m 2 + 1) (set_at (3 + m 2) v m) (set_at (3 + m 2) v n) refl
+    (set_same (3 + m 2) v v m n refl e) j
 
 after_same : (m n : ℕ → ℕ) (op : Op) (r : Reply) → ((i : ℕ) → n i ≡ m i) → (j : ℕ)
     → after n op r j ≡ after m op r j
@@ -112,6 +131,8 @@ after_same m n (PBoth i j) Done e =
     set_same i (m i - 1) (n i - 1) (set_at j (m j - 1) m) (set_at j (n j - 1) n)
     (ap (λ k. k - 1) (e i)) (set_same j (m j - 1) (n j - 1) m n (ap (λ k. k - 1) (e j)) e)
 after_same m n (Put v) r e = set_same 0 v v m n refl e
+after_same m n (Produce v) Done e = put_same v m n e
+after_same m n Consume (Number i) e = set_same 1 (m 1 + 1) (n 1 + 1) m n (ap (λ k. k + 1) (e 1)) e
 after_same m n op r e = e
 
 module _ (g : ℕ → ℕ) (m n : ℕ → ℕ) where

@@ -12,7 +12,7 @@ use Rattle.std.proofs.lemmas.List.Sorted.{IsPermutation-middle, All-permutation}
 use Rattle.calls_core.specs.declared.history.Kind.{Kind}
 use Rattle.calls_core.specs.declared.history.Op.{Op}
 use Rattle.calls_core.specs.declared.history.Op.TheVariants.{Advance, Read, Await, Ticket, P, V}
-use Rattle.calls_core.specs.declared.history.Op.TheVariants.{PBoth, Put, Get}
+use Rattle.calls_core.specs.declared.history.Op.TheVariants.{PBoth, Put, Get, Produce, Consume}
 use Rattle.calls_core.specs.declared.history.Reply.TheVariants.{Done, Number, Timeout}
 use Rattle.calls_core.specs.declared.history.Reply.{Reply}
 use Rattle.calls_core.specs.declared.history.Action.{Action}
@@ -120,6 +120,12 @@ gives_suits m (PBoth i j) (Number n) g = g
 gives_suits m (PBoth i j) Timeout g = tt
 gives_suits m (Put v) r g = subst (Suits (Put v)) (sym g) tt
 gives_suits m Get r g = subst (Suits Get) (sym g) tt
+gives_suits m (Produce v) Done g = tt
+gives_suits m (Produce v) (Number n) g = g
+gives_suits m (Produce v) Timeout g = tt
+gives_suits m Consume Done g = g
+gives_suits m Consume (Number n) g = tt
+gives_suits m Consume Timeout g = tt
 
 run_suits : (s : ℕ → ℕ → ℕ) (cs : List Call) → IsRun s cs
     → Each (λ (c : Call). Suits c.op c.reply) cs

@@ -5,7 +5,7 @@ use Rattle.std.proofs.lemmas.List.{length-map}
 use Rattle.std.proofs.lemmas.List.Sorted.{IsPermutation-refl}
 use Rattle.calls_core.specs.declared.history.Kind.{Kind}
 use Rattle.calls_core.specs.declared.history.Kind.TheVariants.{Eventcount, Sequencer, Semaphores}
-use Rattle.calls_core.specs.declared.history.Kind.TheVariants.{Cell, Database}
+use Rattle.calls_core.specs.declared.history.Kind.TheVariants.{Cell, Database, Buffer}
 use Rattle.calls_core.specs.declared.history.Action.{Action}
 use Rattle.calls_core.specs.declared.history.Action.TheVariants.{Invoke, Respond}
 use Rattle.calls_core.specs.declared.history.Event.{Event}
@@ -79,6 +79,10 @@ order_of_watch (Database n) past (Count m) y h = absurd h
 order_of_watch (Database n) past (Ticket m) y h = absurd h
 order_of_watch (Database n) past (Units m) y h = absurd h
 order_of_watch (Database n) past Nothing y h = absurd y
+order_of_watch (Buffer n) past (Count m) y h = absurd h
+order_of_watch (Buffer n) past (Ticket m) y h = absurd h
+order_of_watch (Buffer n) past (Units m) y h = absurd h
+order_of_watch (Buffer n) past Nothing y h = absurd y
 
 pub none_of : (kind : Kind) (past : List Event) (x : Event) (r : Refusal) → Explains kind past x r
     → HasOrderOf kind (x ∷ past) → ⊥
@@ -98,6 +102,9 @@ none_of Cell past x (UnitRefusal f) e = λ o. e
 none_of (Database n) past x (CountRefusal f) e = λ o. e
 none_of (Database n) past x (TicketRefusal f) e = λ o. e
 none_of (Database n) past x (UnitRefusal f) e = λ o. e
+none_of (Buffer n) past x (CountRefusal f) e = λ o. e
+none_of (Buffer n) past x (TicketRefusal f) e = λ o. e
+none_of (Buffer n) past x (UnitRefusal f) e = λ o. e
 
 -- ROOM
 
@@ -155,6 +162,10 @@ module _ (x : Event) (past : List Event) (a : Action)
   roomy (Database n) (Ticket m) y h = absurd h
   roomy (Database n) (Units m) y h = absurd h
   roomy (Database n) Nothing y h = tt
+  roomy (Buffer n) (Count m) y h = absurd h
+  roomy (Buffer n) (Ticket m) y h = absurd h
+  roomy (Buffer n) (Units m) y h = absurd h
+  roomy (Buffer n) Nothing y h = tt
 
 -- UNITS
 
@@ -177,6 +188,7 @@ units_taken x past old new u judges grows (Semaphores units) h w few = (
 )
 units_taken x past old new u judges grows Cell h w few = absurd w
 units_taken x past old new u judges grows (Database n) h w few = absurd w
+units_taken x past old new u judges grows (Buffer n) h w few = absurd w
 
 -- the monitor of semaphores explains what it rejects
 units_explained : (x : Event) (past : List Event) (old new : UnitMonitor) (f : Fault)
@@ -189,6 +201,7 @@ units_explained x past old new f judges (Semaphores units) h w few =
     judges units past h w.0 (λ i. omega (arith, w.1 i, few))
 units_explained x past old new f judges Cell h w few = absurd w
 units_explained x past old new f judges (Database n) h w few = absurd w
+units_explained x past old new f judges (Buffer n) h w few = absurd w
 
 pub units_judged : (x : Event) (past : List Event) (old new : UnitMonitor)
     (r : Result Unit Fault) (mapped : Result Unit Refusal) → UnitJudges old new x r

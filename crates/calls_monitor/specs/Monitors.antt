@@ -3,7 +3,7 @@ use Rattle.std.specs.Prelude.{◌≡◌, ℕ, ◌+◌, ◌<◌, List, ◌∷◌,
 use Rattle.std.specs.Prelude.{Option, Some, None, Result, Ok, Err, false}
 use Rattle.calls_core.specs.declared.history.TheConstants.{WORKERS}
 use Rattle.calls_core.specs.declared.history.Kind.{Kind}
-use Rattle.calls_core.specs.declared.history.Kind.TheVariants.{Cell, Database}
+use Rattle.calls_core.specs.declared.history.Kind.TheVariants.{Cell, Database, Buffer}
 use Rattle.calls_core.specs.declared.history.Event.{Event}
 use Rattle.calls_core.specs.Histories.{pending_calls, IsHistory, part}
 use Rattle.calls_core.specs.Completions.{is_response, IsLinearizable}
@@ -17,10 +17,11 @@ use Rattle.calls_monitor.specs.declared.whole.Stop.{Stop}
 use Rattle.calls_monitor.specs.Refusals.{Explains}
 use Rattle.calls_monitor.specs.kept.Watching.{Watches}
 
--- which objects are watched: all but cells and databases
+-- which objects are watched: all but cells, databases and buffers
 abbrev pub IsWatched : Kind → Type 0
 IsWatched Cell = ⊥
 IsWatched (Database n) = ⊥
+IsWatched (Buffer n) = ⊥
 IsWatched _ = Unit {0}
 
 abbrev pub AreWatched : List Kind → Type 0

@@ -16,7 +16,7 @@ pub(crate) enum Watch {
     Ticket(calls_tickets::Monitor),
     /// Of semaphores.
     Units(calls_semaphores::Monitor),
-    /// A cell or a database has none.
+    /// A cell, a database or a buffer has none.
     Nothing,
 }
 
@@ -62,7 +62,7 @@ impl Watch {
             Kind::Semaphores(units) => {
                 Ok(Watch::Units(calls_semaphores::Monitor::new(alloc, units)?))
             }
-            Kind::Cell | Kind::Database(_) => Ok(Watch::Nothing),
+            Kind::Cell | Kind::Database(_) | Kind::Buffer(_) => Ok(Watch::Nothing),
         }
     }
 

@@ -85,6 +85,12 @@ module _ (t : Tables) where
   no_reply ops.Get given.Done is = is
   no_reply ops.Get (given.Number n) is = is
   no_reply ops.Get given.Timeout is = is
+  no_reply (ops.Produce v) given.Done is = is
+  no_reply (ops.Produce v) (given.Number n) is = is
+  no_reply (ops.Produce v) given.Timeout is = is
+  no_reply ops.Consume given.Done is = is
+  no_reply ops.Consume (given.Number n) is = is
+  no_reply ops.Consume given.Timeout is = is
 
   -- a call whose last reply is that of a recorded call is completed
   pub call_made : (past late : List Entry) (cs : List Call) (c : Call) (reply : Reply)

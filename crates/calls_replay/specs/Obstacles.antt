@@ -15,7 +15,7 @@ abbrev pub is_group_action : HeadingModel → Action → Bool
 is_group_action h (Invoke k op) = nat_le (semaphores h) k
 is_group_action h (Respond reply) = false
 
--- the position of the first call of a semaphore or a database
+-- the position of the first call of a semaphore, a database or a buffer: their indices come last
 abbrev pub first_of_group : RecordingModel → Option ℕ
 first_of_group r = position (λ (e : events.Event). is_group_action r.heading e.action) r.events
 
@@ -53,6 +53,6 @@ obstacle_note r n (Begun e) =
     ++ codes " is not 0 at the beginning\n"
 obstacle_note r n (OfGroup i) =
     codes "line " ++ decimal (line_of r n i)
-    ++ codes ": no trace: the call is of a semaphore or a database\n"
+    ++ codes ": no trace: the call is of a semaphore, a database or a buffer\n"
 obstacle_note r n (Second line) =
     codes "line " ++ decimal line ++ codes ": no trace: another history follows\n"

@@ -51,7 +51,7 @@ fn opening_act(heading: &Heading, call: &Call) -> Option<Act>
             let place = object.checked_sub(first_cell(heading))?;
             Some(Act::Get(CellId::new(place)?))
         }
-        Op::P(_) | Op::V(_) | Op::PBoth(_, _) => None,
+        Op::P(_) | Op::V(_) | Op::PBoth(_, _) | Op::Produce(_) | Op::Consume => None,
     }
 }
 

@@ -17,7 +17,7 @@ use std::io::Write;
 pub enum Obstacle {
     /// The initial count of an eventcount is not 0, and no step made it.
     Begun(EventId),
-    /// The event at this position is on a semaphore or a database.
+    /// The event at this position is on a semaphore, a database or a buffer.
     OfGroup(usize),
     /// Another history follows from this line on.
     Second(u64),
@@ -40,7 +40,7 @@ fn first_begun(recording: &Recording) -> Option<EventId>
     None
 }
 
-/// Returns the position of the first call of a semaphore or a database.
+/// Returns the position of the first call of a semaphore, a database or a buffer.
 fn first_of_group(recording: &Recording) -> Option<usize>
     ensures { result ≡ first_of_group recording.now }
 {
@@ -110,7 +110,7 @@ fn put_obstacle<N: Write>(notes: &mut Output<'_, N>, read: &Read<'_>, obstacle: 
         Obstacle::OfGroup(position) => put_at_line(
             notes,
             line_of(read, position),
-            b": no trace: the call is of a semaphore or a database\n",
+            b": no trace: the call is of a semaphore, a database or a buffer\n",
         ),
         Obstacle::Second(line) => put_at_line(
             notes,

@@ -13,6 +13,7 @@ use Rattle.ec_count.specs.declared.target.Target.TheVariants.{Event, Sequencer}
 use Rattle.ec_heading.specs.HeadingModel.{HeadingModel}
 use Rattle.ec_heading.specs.declared.group.Group as kinds
 use Rattle.ec_heading.specs.declared.group.Group.TheVariants as groups
+use Rattle.ec_buffer.specs.Shapes.{Buffer}
 use Rattle.ec_database.specs.Shapes.{Database}
 use Rattle.ec_text.specs.Puts.{Puts, OutputModel}
 use Rattle.ec_text.proofs.shared.PutLemmas.{puts_then}
@@ -21,6 +22,7 @@ use Rattle.ec_heading.specs.Groups.{has_event, has_sequencer}
 use Rattle.calls_text.specs.Recordings.{RecordingModel, first_group}
 use Rattle.calls_text.specs.Spelling.{numbers_of_list}
 use Rattle.calls_report.specs.Totals.{effects, group_event, group_sequencer, event_total}
+use Rattle.calls_report.specs.Totals.{produced, consumed}
 use Rattle.calls_report.specs.Totals.{sequencer_total, cell_total, count_line, cell_line}
 use Rattle.calls_report.specs.Totals.{cell_lines, word_totals, totals_at, totals_text}
 
@@ -40,6 +42,26 @@ pub database_sequencer : (h : HeadingModel) (order : List Placed) (q i : ℕ) (g
 database_sequencer h order q i g d n is has count =
     let has' : has_sequencer (groups.Database d) q ≡ true = ap (λ k. has_sequencer k q) (sym is) ∙ has in
     rw is (rw (has', count) refl)
+
+-- an eventcount of a buffer
+pub buffer_event : (h : HeadingModel) (order : List Placed) (e i : ℕ) (g : kinds.Group) (b : Buffer)
+    (t : Bool) (n : ℕ) → g ≡ groups.Buffer b → has_event g e ≡ true → t ≡ (b.in_count == e)
+    → n ≡ (if t then length (produced order (first_group h + i))
+    else consumed order (first_group h + i))
+    → Some n ≡ group_event h order e i g
+buffer_event h order e i g b t n is has put count =
+    let has' : has_event (groups.Buffer b) e ≡ true = ap (λ k. has_event k e) (sym is) ∙ has in
+    rw is (rw (has', count, put) refl)
+
+pub buffer_sequencer : (h : HeadingModel) (order : List Placed) (q i : ℕ) (g : kinds.Group)
+    (b : Buffer) (t : Bool) (n : ℕ) → g ≡ groups.Buffer b → has_sequencer g q ≡ true
+    → t ≡ (b.put_seq == q)
+    → n ≡ (if t then length (produced order (first_group h + i))
+    else consumed order (first_group h + i))
+    → Some n ≡ group_sequencer h order q i g
+buffer_sequencer h order q i g b t n is has put count =
+    let has' : has_sequencer (groups.Buffer b) q ≡ true = ap (λ k. has_sequencer k q) (sym is) ∙ has in
+    rw is (rw (has', count, put) refl)
 
 no_list : (lists : List (List ℕ)) (k : ℕ) → None ≡ slice_get lists k → get_or lists k [] ≡ []
 no_list [] k none = refl

@@ -98,6 +98,7 @@ ShowsFault r k events (faults.Count f) shown = shown ≡ count_certificate r k e
 ShowsFault r k events (faults.Ticket f) shown = shown ≡ ticket_certificate k events f
 ShowsFault r k events (faults.Units f) shown = shown ≡ unit_certificate r.heading events f
 ShowsFault r k events (faults.Value f) shown = IsValueCertificate f shown
+ShowsFault r k events (faults.Items f) shown = shown ≡ shows.Items f
 
 -- the certificate of a refusal: what the calls of the object show, up to the first faulty event
 abbrev pub IsCertificate : RecordingModel → Refusal → Certificate → Type 0

@@ -3,6 +3,8 @@ pub mod Orders
 pub mod Totals
 pub mod Counting
 pub mod Certificates
+pub mod Sites
+pub mod Items
 pub mod Refusals
 pub mod Notes
 pub mod Remarks

@@ -11,10 +11,13 @@ use Rattle.calls_text.specs.Faults.{kind_number, kind_name}
 use Rattle.calls_text.specs.Recordings.{RecordingModel}
 use Rattle.calls_text.specs.Spelling.{store_word, numbers_of_value, numbers_after_spaces}
 use Rattle.calls_cells.specs.declared.outcome.Undecided as cells
+use Rattle.calls_verdict.specs.declared.verdict.Cause as why
+use Rattle.calls_verdict.specs.declared.verdict.Cause.TheVariants.{Values, Unfound}
 use Rattle.calls_verdict.specs.declared.verdict.Refusal.{Refusal}
 use Rattle.calls_report.specs.declared.certificate.Certificate.{Certificate}
 use Rattle.calls_report.specs.Certificates.{IsCertificate}
-use Rattle.calls_report.specs.Refusals.{SiteModel, line_of, by_store, certificate_text}
+use Rattle.calls_report.specs.Sites.{SiteModel, line_of}
+use Rattle.calls_report.specs.Refusals.{by_store, certificate_text}
 
 -- FAULTS OF TEXTS
 
@@ -111,6 +114,14 @@ abbrev pub overlap_text : SiteModel → cells.Undecided → List ℕ
 overlap_text s u =
     line_of s u.first.first ++ codes " and " ++ line_of s u.second.first ++ codes " overlap\n"
 
--- the note on a cell or a database that is not decided
-abbrev pub undecided_note : SiteModel → cells.Undecided → List ℕ
-undecided_note s u = repeated_text s u.value ++ overlap_text s u
+-- that nothing was found of a buffer from a position on
+abbrev pub from_text : SiteModel → ℕ → List ℕ
+from_text s n = codes " is not decided from line " ++ line_of s n ++ codes " on\n"
+
+abbrev pub unfound_text : SiteModel → ℕ → List ℕ
+unfound_text s n = store_word s.heading s.object ++ from_text s n
+
+-- the note on an object that is not decided
+abbrev pub undecided_note : SiteModel → why.Cause → List ℕ
+undecided_note s (Values u) = repeated_text s u.value ++ overlap_text s u
+undecided_note s (Unfound n) = unfound_text s n

@@ -14,21 +14,10 @@ use Rattle.calls_tickets.specs.Faults.{number}
 use Rattle.calls_text.specs.Recordings.{first_sequencer, first_group}
 use Rattle.calls_text.specs.Spelling.{event_word, sequencer_word, group_word, store_word, numbers_of_value}
 use Rattle.calls_text.specs.Spelling.{numbers_after_spaces}
+use Rattle.calls_report.specs.Sites.{SiteModel, line_of}
+use Rattle.calls_report.specs.Items.{item_text}
 use Rattle.calls_report.specs.declared.certificate.Certificate.{Certificate}
 use Rattle.calls_report.specs.declared.certificate.Certificate.TheVariants as shows
-
--- the site of a certificate: what is declared, the lists of numbers, the object, the number of the
--- line of the event at position 0, and the position of the first faulty event
-pub record SiteModel : Type 0 where
-  pub heading : HeadingModel
-  pub lists : List (List ℕ)
-  pub object : ℕ
-  pub first : ℕ
-  pub at : ℕ
-
--- the number of the line of the event at a position, at most 2 ^ 64 - 1
-abbrev pub line_of : SiteModel → ℕ → List ℕ
-line_of s n = decimal (min (s.first + n) (2 ^ 64 - 1))
 
 -- EVENTCOUNTS
 
@@ -275,3 +264,4 @@ certificate_text s (shows.Nowhere c) = nowhere_text s c
 certificate_text s (shows.Stale c d) = stale_text s c d
 certificate_text s (shows.Alternate a b c d) = alternate_text s a b c d
 certificate_text s (shows.NoneLeft gets) = none_left_text s gets.now
+certificate_text s (shows.Items f) = item_text s f

@@ -13,7 +13,7 @@ use Rattle.calls_text.specs.Recordings.{RecordingModel}
 use Rattle.calls_text.specs.Spelling.{worker_word, event_word}
 use Rattle.calls_report.specs.declared.remarks.Remark.{Remark}
 use Rattle.calls_report.specs.Certificates.{start_at}
-use Rattle.calls_report.specs.Refusals.{SiteModel, line_of}
+use Rattle.calls_report.specs.Sites.{SiteModel, line_of}
 use Rattle.calls_report.specs.Notes.{site_of}
 
 -- WHAT THE COUNT HAS SURELY REACHED

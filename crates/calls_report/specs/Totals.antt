@@ -1,5 +1,5 @@
 -- The totals of the objects after the calls of a linearization, as text.
-use Rattle.std.specs.Prelude.{ℕ, ◌+◌, ◌^◌, ◌==◌, zero, suc, Bool, true, false, ◌&&◌, nat_lt}
+use Rattle.std.specs.Prelude.{ℕ, ◌+◌, ◌^◌, ◌%◌, ◌==◌, zero, suc, Bool, true, false, ◌&&◌, nat_lt, length}
 use Rattle.std.specs.Prelude.{count_by, List, [], ◌∷◌, ◌++◌, codes, decimal, min, if◌then◌else◌}
 use Rattle.std.specs.Prelude.{◌-◌, slice_index_or, Option, Some, None, unwrap_or}
 use Rattle.std.specs.List.{flat_map}
@@ -11,6 +11,8 @@ use Rattle.ec_heading.specs.declared.group.Group as kinds
 use Rattle.ec_heading.specs.declared.group.Group.TheVariants as groups
 use Rattle.calls_core.specs.declared.history.Op.{Op}
 use Rattle.calls_core.specs.declared.history.Op.TheVariants as ops
+use Rattle.calls_core.specs.declared.history.Reply.{Reply}
+use Rattle.calls_core.specs.declared.history.Reply.TheVariants as replies
 use Rattle.calls_core.specs.declared.history.Placed.{Placed}
 use Rattle.calls_semaphores.specs.Banks.{takes, is_done}
 use Rattle.ec_heading.specs.Groups.{has_event, has_sequencer, has_cell}
@@ -65,11 +67,48 @@ is_pair _ = false
 abbrev pub pairs : List Placed → ℕ
 pairs order = count_by (λ (p : Placed). is_pair p.call.op && is_done p.call.reply) order
 
+-- the items that a call puts into its object: one if it is a produce that took effect
+abbrev pub items_put : Op → Reply → List ℕ
+items_put (ops.Produce v) replies.Done = v ∷ []
+items_put _ _ = []
+
+abbrev pub items_into : ℕ → Placed → List ℕ
+items_into k p = if p.call.object == k then items_put p.call.op p.call.reply else []
+
+-- the items that were put into object k, in order; the first one has the number 0
+abbrev pub produced : List Placed → ℕ → List ℕ
+produced order k = flat_map (items_into k) order
+
+-- whether a call takes an item: it is a consume that took effect
+abbrev pub takes_item : Op → Reply → Bool
+takes_item ops.Consume (replies.Number v) = true
+takes_item _ _ = false
+
+-- how many items were taken out of object k
+abbrev pub consumed : List Placed → ℕ → ℕ
+consumed order k =
+    count_by (λ (p : Placed). (p.call.object == k) && takes_item p.call.op p.call.reply) order
+
+-- the last of the first c items whose number is i modulo n, 0 if there is none
+abbrev pub last_in_cell : List ℕ → ℕ → ℕ → ℕ → ℕ
+last_in_cell vs n i zero = 0
+last_in_cell vs n i (suc c) =
+    if c % n == i then slice_index_or vs c 0 else last_in_cell vs n i c
+
+-- the item in cell i of the n cells of a buffer after these items were put: item j is put into cell
+-- j modulo n
+abbrev pub last_item : List ℕ → ℕ → ℕ → ℕ
+last_item vs n i = last_in_cell vs n i (length vs)
+
 -- THE OBJECTS OF GROUPS
 
 -- the count of an eventcount by the calls of the group at index i, if it belongs to that group
 abbrev pub group_event : HeadingModel → List Placed → ℕ → ℕ → kinds.Group → Option ℕ
-group_event h order e i (groups.Buffer b) = if has_event (groups.Buffer b) e then Some 0 else None
+group_event h order e i (groups.Buffer b) =
+    if has_event (groups.Buffer b) e then
+    Some (if b.in_count == e then length (produced order (first_group h + i))
+    else consumed order (first_group h + i))
+    else None
 group_event h order e i (groups.Database d) =
     if has_event (groups.Database d) e then Some (effects order (first_group h + i)) else None
 group_event h order e i (groups.Semaphore s) =
@@ -79,8 +118,11 @@ group_event h order e i (groups.Both s) =
 
 -- how many numbers the calls of the group at index i drew, if the sequencer belongs to that group
 abbrev pub group_sequencer : HeadingModel → List Placed → ℕ → ℕ → kinds.Group → Option ℕ
-group_sequencer h order q i (groups.Buffer b) = if has_sequencer (groups.Buffer b) q then Some 0 else
-    None
+group_sequencer h order q i (groups.Buffer b) =
+    if has_sequencer (groups.Buffer b) q then
+    Some (if b.put_seq == q then length (produced order (first_group h + i))
+    else consumed order (first_group h + i))
+    else None
 group_sequencer h order q i (groups.Database d) =
     if has_sequencer (groups.Database d) q then Some (effects order (first_group h + i)) else None
 group_sequencer h order q i (groups.Semaphore s) =
@@ -95,7 +137,10 @@ final_numbers r order i cells =
 
 -- the final number of a cell of the group at index i, if it belongs to that group
 abbrev pub group_cell : RecordingModel → List Placed → ℕ → ℕ → kinds.Group → Option ℕ
-group_cell r order x i (groups.Buffer b) = if has_cell (groups.Buffer b) x then Some 0 else None
+group_cell r order x i (groups.Buffer b) =
+    if has_cell (groups.Buffer b) x then
+    Some (last_item (produced order (first_group r.heading + i)) b.cells (x - b.first_cell))
+    else None
 group_cell r order x i (groups.Database d) =
     if has_cell (groups.Database d) x then Some (slice_index_or (final_numbers r order i d.cells)
     (x - d.first_cell) 0)

@@ -59,6 +59,8 @@ pub enum Certificate<'a> {
     Alternate(Call, Call, Call, Call),
     /// No put is left for the first of these gets, since the others need them.
     NoneLeft(&'a [Call]),
+    /// The calls of a buffer show this.
+    Items(calls_buffers::Fault),
 }
 
 /// Returns how many advances of an object lie between two positions.
@@ -218,5 +220,6 @@ pub(crate) fn certify<'a>(
         Fault::Ticket(fault) => of_ticket(alloc, events, object, fault),
         Fault::Units(fault) => of_units(alloc, recording.heading(), events, fault),
         Fault::Value(fault) => Ok(of_value(fault)),
+        Fault::Items(fault) => Ok(Certificate::Items(*fault)),
     }
 }

@@ -5,6 +5,7 @@
 mod certificate;
 mod checking;
 mod counting;
+mod items;
 mod notes;
 mod order;
 mod refusal;

@@ -1,11 +1,12 @@
 //! The notes. A failed write of a note is not reported, and no write is tried after it.
 ghost use Rattle.std.specs.Prelude.{◌≡◌, ◌++◌, codes, OnOk, OnErr};
 ghost use Rattle.ec_text.specs.Puts.{Puts, IsWrittenOut};
-ghost use Rattle.calls_report.specs.Refusals.{line_of};
+ghost use Rattle.calls_report.specs.Sites.{line_of};
 ghost use Rattle.calls_report.specs.Notes.{cause_text, kind_text, line_words, kind_words};
 ghost use Rattle.calls_report.specs.Notes.{fault_note, first_line, site_of, site_at, refusal_note};
 ghost use Rattle.calls_report.specs.Notes.{SaysRefusal, repeated_words, repeated_text};
-ghost use Rattle.calls_report.specs.Notes.{overlap_text, undecided_text, undecided_note};
+ghost use Rattle.calls_report.specs.Notes.{overlap_text, undecided_text, unfound_text, from_text};
+ghost use Rattle.calls_report.specs.Notes.{undecided_note};
 
 use crate::certificate::{Certificate, certify};
 use crate::refusal::Site;
@@ -227,6 +228,36 @@ fn put_overlap<W: Write>(out: &mut Output<'_, W>, site: &Site<'_>, cause: &calls
     out.put(b" overlap\n");
 }
 
+/// Puts that something is not decided from a position on.
+fn put_from<W: Write>(out: &mut Output<'_, W>, site: &Site<'_>, position: usize)
+    ensures { Puts out.old out.new (from_text site.now position) }
+{
+    out.put(b" is not decided from line ");
+    site.put_line(out, position);
+    out.put(b" on\n");
+}
+
+/// Puts from where on nothing was found of a buffer.
+fn put_unfound<W: Write>(out: &mut Output<'_, W>, site: &Site<'_>, position: usize)
+    ensures { Puts out.old out.new (unfound_text site.now position) }
+{
+    site.speaker.put_store(out, site.object);
+    put_from(out, site, position);
+}
+
+/// Puts why an object is not decided.
+fn put_open<W: Write>(out: &mut Output<'_, W>, site: &Site<'_>, cause: &calls_verdict::Cause)
+    ensures { Puts out.old out.new (undecided_note site.now cause.now) }
+{
+    match cause {
+        calls_verdict::Cause::Values(values) => {
+            put_repeated(out, site, values.value);
+            put_overlap(out, site, values);
+        }
+        calls_verdict::Cause::Unfound(position) => put_unfound(out, site, *position),
+    }
+}
+
 /// Reports why a history is not decided.
 pub fn report_undecided<N: Write>(notes: &mut Output<'_, N>, read: &Read<'_>, undecided: &Undecided)
     ensures puts { Puts notes.old notes.new (undecided_note (site_of read.now.number
@@ -234,7 +265,6 @@ pub fn report_undecided<N: Write>(notes: &mut Output<'_, N>, read: &Read<'_>, un
     ensures written { IsWrittenOut notes.new }
 {
     let site = site_of(read, undecided.object, 0);
-    put_repeated(notes, &site, undecided.cause.value);
-    put_overlap(notes, &site, &undecided.cause);
+    put_open(notes, &site, &undecided.cause);
     notes.flush();
 }

@@ -4,7 +4,8 @@ ghost use Rattle.calls_tickets.specs.Faults.{number};
 ghost use Rattle.calls_text.specs.Spelling.{worker_word, event_word, group_word, numbers_of_value};
 ghost use Rattle.calls_text.specs.Spelling.{numbers_after_spaces};
 ghost use Rattle.ec_text.specs.Puts.{Puts};
-ghost use Rattle.calls_report.specs.Refusals.{line_of, advances_text, start_text, advances_word};
+ghost use Rattle.calls_report.specs.Sites.{line_of};
+ghost use Rattle.calls_report.specs.Refusals.{advances_text, start_text, advances_word};
 ghost use Rattle.calls_report.specs.Refusals.{count_text, threshold, returned_text, below_text};
 ghost use Rattle.calls_report.specs.Refusals.{only_text, few_text, many_text, but_line};
 ghost use Rattle.calls_report.specs.Refusals.{before_text, between_text, had_text, since_text};
@@ -20,6 +21,7 @@ ghost use Rattle.calls_report.specs.Refusals.{certificate_text, raised_text, uno
 ghost use Rattle.calls_report.specs.Refusals.{no_unit_text};
 
 use crate::certificate::{Certificate, ticket_number};
+use crate::items::put_items;
 use crate::words::Speaker;
 use calls_core::{Call, Op, Reply};
 use ec_text::Output;
@@ -37,9 +39,9 @@ pub(crate) struct Site<'a> {
 }
 
 impl<'a> Model for Site<'a> {
-    ghost use Rattle.calls_report.specs.Refusals as refusals;
+    ghost use Rattle.calls_report.specs.Sites.{SiteModel};
 
-    ghost Value = { refusals.SiteModel };
+    ghost Value = { SiteModel };
 
     ghost view = { λ s. record {
       heading = s.speaker.heading;
@@ -632,6 +634,7 @@ impl<'a> Site<'a> {
             Certificate::Stale(earlier, call) => self.put_stale(out, &earlier, &call),
             Certificate::Alternate(a, b, c, d) => self.put_alternate(out, &a, &b, &c, &d),
             Certificate::NoneLeft(gets) => self.put_none_left(out, gets),
+            Certificate::Items(fault) => put_items(out, self, &fault),
         }
     }
 }

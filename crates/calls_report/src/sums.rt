@@ -3,6 +3,7 @@ ghost use Rattle.std.specs.Prelude.{ℕ, List, ◌≡◌, ◌+◌, ◌<◌, ◌�
 ghost use Rattle.std.specs.Prelude.{slice_index_or};
 ghost use Rattle.calls_report.specs.Totals.{is_effect};
 ghost use Rattle.calls_report.specs.kept.Sums.{IsSetAt, AreSums, AddsEffect, AddsUnits, AddsPair};
+ghost use Rattle.calls_report.specs.kept.Sums.{list_at, IsLonger, AddsItem};
 
 use calls_core::{Call, Op, Placed, Reply};
 use std::alloc::{AllocError, Global};
@@ -20,6 +21,10 @@ pub(crate) struct Sums {
     pub(crate) taken: Vec<usize>,
     /// How many times units of two semaphores were taken at once.
     pub(crate) pairs: usize,
+    /// For each object the items that were put into it, in order.
+    pub(crate) produced: Vec<Vec<usize>>,
+    /// For each object how many items were taken out of it.
+    pub(crate) consumed: Vec<usize>,
 }
 
 /// Returns the number at an index, 0 if none is stored.
@@ -64,6 +69,26 @@ fn add_one(numbers: &mut Vec<usize>, i: usize) -> Result<(), AllocError>
     set(numbers, i, n)
 }
 
+/// Extends the lists by empty ones, so that there is one at an index.
+fn reach_list(alloc: Global, lists: &mut Vec<Vec<usize>>, i: usize) -> Result<(), AllocError>
+    ensures room { OnOk result (i < length lists.new.items) }
+    ensures same { (j : ℕ) → list_at lists.new.items j ≡ list_at lists.old.items j }
+{
+    while lists.len() <= i {
+        lists.push(Vec::new(alloc))?;
+    }
+    Ok(())
+}
+
+/// Adds a number to the list at an index.
+fn push_at(alloc: Global, lists: &mut Vec<Vec<usize>>, i: usize, n: usize) -> Result<(), AllocError>
+    ensures { OnOk result (IsLonger i (n ∷ []) lists.old.items lists.new.items) }
+{
+    reach_list(alloc, lists, i)?;
+    lists[i].push(n)?;
+    Ok(())
+}
+
 /// Returns whether the operation is an advance, a ticket or a put.
 fn is_effect(op: Op) -> bool
     ensures { result ≡ is_effect op }
@@ -82,6 +107,8 @@ impl Sums {
             added: Vec::new(alloc),
             taken: Vec::new(alloc),
             pairs: 0,
+            produced: Vec::new(alloc),
+            consumed: Vec::new(alloc),
         }
     }
 
@@ -125,13 +152,27 @@ impl Sums {
         }
     }
 
+    /// Adds the item that a call puts or takes.
+    fn add_item(&mut self, alloc: Global, call: &Call) -> Result<(), AllocError>
+        ensures { OnOk result (AddsItem call.now self.old self.new) }
+    {
+        match (call.op, call.reply) {
+            (Op::Produce(item), Reply::Done) => {
+                push_at(alloc, &mut self.produced, call.object, item)
+            }
+            (Op::Consume, Reply::Number(_)) => add_one(&mut self.consumed, call.object),
+            _ => Ok(()),
+        }
+    }
+
     /// Adds a call.
-    fn add(&mut self, placed: &Placed) -> Result<(), AllocError>
+    fn add(&mut self, alloc: Global, placed: &Placed) -> Result<(), AllocError>
         ensures { OnOk result ((order : List Placed) → AreSums order self.old → AreSums
             (order ++ placed.now ∷ []) self.new) }
     {
         self.add_effect(&placed.call)?;
-        self.add_units(&placed.call)
+        self.add_units(&placed.call)?;
+        self.add_item(alloc, &placed.call)
     }
 
     /// Returns the sums over a linearization.
@@ -140,7 +181,7 @@ impl Sums {
     {
         let mut sums = Sums::none(alloc);
         for placed in order {
-            sums.add(placed)?;
+            sums.add(alloc, placed)?;
         }
         Ok(sums)
     }

@@ -7,6 +7,7 @@ ghost use Rattle.calls_core.specs.declared.history.Placed.{Placed};
 ghost use Rattle.calls_text.specs.Recordings.{first_group};
 ghost use Rattle.calls_report.specs.Totals.{effects, group_event, group_sequencer, group_cell};
 ghost use Rattle.calls_report.specs.Totals.{final_numbers, event_total, sequencer_total};
+ghost use Rattle.calls_report.specs.Totals.{produced, consumed, last_item};
 ghost use Rattle.calls_report.specs.Totals.{cell_total, count_line, cell_line, cell_lines};
 ghost use Rattle.calls_report.specs.Totals.{word_totals, totals_text, totals_at};
 ghost use Rattle.calls_report.specs.kept.Sums.{AreSums};
@@ -32,19 +33,66 @@ fn cell_at(first: CellId, i: usize) -> Option<CellId>
     CellId::new(first.get().checked_add(i)?)
 }
 
+/// Returns the last item whose number is `i` modulo `n`, 0 if there is none.
+fn last_item(items: &[usize], n: usize, i: usize) -> usize
+    requires { 0 < n }
+    ensures { result ≡ last_item items.now n i }
+{
+    let mut count = items.len();
+    while count > 0 {
+        count -= 1;
+        if count % n == i {
+            return items[count];
+        }
+    }
+    0
+}
+
 impl<'a> Totals<'a> {
+    /// Returns the index of the object that a group is. `place` is its index among the groups.
+    fn object_of(&self, place: usize) -> usize
+        requires { place < length self.now.recording.now.heading.groups }
+        ensures { result ≡ first_group self.now.recording.now.heading + place }
+    {
+        // there is a kind for each group, so the sum fits
+        let _kinds = self.recording.kinds().len();
+        first_group(self.recording.heading()) + place
+    }
+
     /// Returns how many writes of a database there are. `place` is its index among the groups.
     fn writes(&self, place: usize) -> usize
         requires { place < length self.now.recording.now.heading.groups }
         ensures { (order : List Placed) → AreSums order self.now.sums.now → result ≡ effects order
             (first_group self.now.recording.now.heading + place) }
     {
-        // there is a kind for each group, so the sum fits
-        let _kinds = self.recording.kinds().len();
-        number_at(
-            &self.sums.effects,
-            first_group(self.recording.heading()) + place,
-        )
+        number_at(&self.sums.effects, self.object_of(place))
+    }
+
+    /// Returns the items that were put into a buffer. `place` is its index among the groups.
+    fn items(&self, place: usize) -> &[usize]
+        requires { place < length self.now.recording.now.heading.groups }
+        ensures { (order : List Placed) → AreSums order self.now.sums.now → result.now ≡ produced
+            order (first_group self.now.recording.now.heading + place) }
+    {
+        match self.sums.produced.get(self.object_of(place)) {
+            Some(items) => items.as_slice(),
+            None => &[],
+        }
+    }
+
+    /// Returns how many items were put into a buffer, or else how many were taken out of it.
+    fn moved(&self, place: usize, is_put: bool) -> usize
+        requires { place < length self.now.recording.now.heading.groups }
+        ensures { (order : List Placed) → AreSums order self.now.sums.now → result
+            ≡ (if is_put then length (produced order
+            (first_group self.now.recording.now.heading + place)) else consumed order
+            (first_group self.now.recording.now.heading + place)) }
+    {
+        if is_put {
+            self.items(place).len()
+        } else {
+            number_at(&self.sums.consumed, self.object_of(place))
+        }
     }
 
     /// Returns the count of an eventcount by the calls of a group, if it belongs to the group.
@@ -57,7 +105,7 @@ impl<'a> Totals<'a> {
             return None;
         }
         match *group {
-            Group::Buffer(_) => Some(0),
+            Group::Buffer(shape) => Some(self.moved(place, shape.in_count() == event)),
             Group::Database(_) => Some(self.writes(place)),
             Group::Semaphore(_) => Some(number_at(&self.sums.added, place)),
             Group::Both(_) => Some(self.sums.pairs),
@@ -74,7 +122,7 @@ impl<'a> Totals<'a> {
             return None;
         }
         match *group {
-            Group::Buffer(_) => Some(0),
+            Group::Buffer(shape) => Some(self.moved(place, shape.put_seq() == sequencer)),
             Group::Database(_) => Some(self.writes(place)),
             Group::Semaphore(_) => Some(number_at(&self.sums.taken, place)),
             Group::Both(_) => Some(self.sums.pairs),
@@ -87,10 +135,7 @@ impl<'a> Totals<'a> {
         ensures { (order : List Placed) → AreSums order self.now.sums.now → result ≡ slice_index_or
             (final_numbers self.now.recording.now order place cells) i 0 }
     {
-        // there is a kind for each group, so the sum fits
-        let _kinds = self.recording.kinds().len();
-        let object = first_group(self.recording.heading()) + place;
-        let value = number_at(&self.sums.values, object);
+        let value = number_at(&self.sums.values, self.object_of(place));
         if value == 0 {
             return 0;
         }
@@ -110,11 +155,15 @@ impl<'a> Totals<'a> {
             return None;
         }
         match *group {
+            Group::Buffer(shape) => {
+                let i = cell.get() - shape.first_cell().get();
+                Some(last_item(self.items(place), shape.cells(), i) as u64)
+            }
             Group::Database(shape) => {
                 let i = cell.get() - shape.first_cell().get();
                 Some(self.of_database_cell(place, shape.cells(), i))
             }
-            _ => Some(0),
+            _ => None,
         }
     }
 

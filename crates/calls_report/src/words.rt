@@ -6,7 +6,7 @@ ghost use Rattle.calls_text.specs.Spelling.{worker_word, event_word, sequencer_w
 ghost use Rattle.calls_text.specs.Spelling.{group_word, store_word, numbers_of_list};
 ghost use Rattle.calls_text.specs.Spelling.{numbers_of_value, numbers_after_spaces, put_word};
 ghost use Rattle.calls_text.specs.Spelling.{get_word, call_text, returned_value, spaced_reply};
-ghost use Rattle.calls_report.specs.kept.Speakers.{IsStoreOp};
+ghost use Rattle.calls_report.specs.kept.Speakers.{IsStoreOp, IsItemOp};
 
 use calls_core::{Op, Reply};
 use calls_text::{Lists, first_cell, first_group, first_sequencer, numbers_of};
@@ -205,6 +205,7 @@ impl<'a> Speaker<'a> {
                 self.put_group(out, j);
             }
             Op::Put(_) | Op::Get => self.put_store_call(out, object, op),
+            Op::Produce(_) | Op::Consume => self.put_item_call(out, object, op),
         }
     }
 
@@ -223,6 +224,33 @@ impl<'a> Speaker<'a> {
             _ => {
                 out.put(if is_cell { b"get " } else { b"snapshot " });
                 self.put_store(out, object);
+            }
+        }
+    }
+
+    /// Puts the name of the group with this index among the objects.
+    fn put_group_of<W: Write>(&self, out: &mut Output<'_, W>, object: usize)
+        ensures { Puts out.old out.new (group_word self.now.heading
+            (object - first_group self.now.heading)) }
+    {
+        self.put_group(out, object.saturating_sub(first_group(self.heading)));
+    }
+
+    /// Puts a call of a buffer.
+    fn put_item_call<W: Write>(&self, out: &mut Output<'_, W>, object: usize, op: Op)
+        requires { IsItemOp op }
+        ensures { Puts out.old out.new (call_text self.now.heading self.now.lists object op) }
+    {
+        match op {
+            Op::Produce(item) => {
+                out.put(b"produce ");
+                self.put_group_of(out, object);
+                out.put(b" ");
+                out.put_number(item as u64);
+            }
+            _ => {
+                out.put(b"consume ");
+                self.put_group_of(out, object);
             }
         }
     }

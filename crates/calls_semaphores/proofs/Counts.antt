@@ -4,7 +4,7 @@ use Rattle.std.proofs.Common.{Some, None, refl, ap, sym, ◌∙◌, arith, count
 use Rattle.std.proofs.Common.{if◌then◌else◌}
 use Rattle.calls_core.specs.declared.history.Op.{Op}
 use Rattle.calls_core.specs.declared.history.Op.TheVariants.{Advance, Read, Await, Ticket, P, V}
-use Rattle.calls_core.specs.declared.history.Op.TheVariants.{PBoth, Put, Get}
+use Rattle.calls_core.specs.declared.history.Op.TheVariants.{PBoth, Put, Get, Produce, Consume}
 use Rattle.calls_core.specs.declared.history.Reply.{Reply}
 use Rattle.calls_core.specs.declared.history.Reply.TheVariants.{Done}
 use Rattle.calls_core.specs.declared.history.Action.TheVariants.{Invoke, Respond}
@@ -149,6 +149,8 @@ v_took_none i (Await v) r e = refl
 v_took_none i Ticket r e = refl
 v_took_none i (Put v) r e = refl
 v_took_none i Get r e = refl
+v_took_none i (Produce v) r e = refl
+v_took_none i Consume r e = refl
 
 other_adds_none : (i : ℕ) (op : Op) → is_v op ≡ false → adds i op ≡ false
 other_adds_none i (V j) e = cc
@@ -160,6 +162,8 @@ other_adds_none i (Await v) e = refl
 other_adds_none i Ticket e = refl
 other_adds_none i (Put v) e = refl
 other_adds_none i Get e = refl
+other_adds_none i (Produce v) e = refl
+other_adds_none i Consume e = refl
 
 abbrev pub answer_if : Bool → Option Reply
 answer_if b = if b then Some Done else None

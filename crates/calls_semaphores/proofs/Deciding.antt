@@ -12,7 +12,7 @@ use Rattle.std.proofs.lemmas.List.Sorted.{IsPermutation-refl, Contains-permutati
 use Rattle.calls_core.specs.declared.history.Kind.TheVariants.{Semaphores}
 use Rattle.calls_core.specs.declared.history.Op.{Op}
 use Rattle.calls_core.specs.declared.history.Op.TheVariants.{Advance, Read, Await, Ticket, P, V}
-use Rattle.calls_core.specs.declared.history.Op.TheVariants.{PBoth, Put, Get}
+use Rattle.calls_core.specs.declared.history.Op.TheVariants.{PBoth, Put, Get, Produce, Consume}
 use Rattle.calls_core.specs.declared.history.Reply.{Reply}
 use Rattle.calls_core.specs.declared.history.Reply.TheVariants.{Done, Number, Timeout}
 use Rattle.calls_core.specs.declared.history.Action.TheVariants.{Invoke, Respond}
@@ -100,6 +100,8 @@ enough a b (Await v) Done = none_taken a b (Await v) Done (λ i. refl)
 enough a b Ticket Done = none_taken a b Ticket Done (λ i. refl)
 enough a b (Put v) Done = none_taken a b (Put v) Done (λ i. refl)
 enough a b Get Done = none_taken a b Get Done (λ i. refl)
+enough a b (Produce v) Done = none_taken a b (Produce v) Done (λ i. refl)
+enough a b Consume Done = none_taken a b Consume Done (λ i. refl)
 
 pub v_done : (op : Op) (r : Reply) → is_v op ≡ true → Suits op r → r ≡ Done
 v_done (V i) Done e s = refl
@@ -113,6 +115,8 @@ v_done (Await v) r e s = cc
 v_done Ticket r e s = cc
 v_done (Put v) r e s = cc
 v_done Get r e s = cc
+v_done (Produce v) r e s = cc
+v_done Consume r e s = cc
 
 no_next : (units : Vec ℕ Global) (r : Reply) (p : Option PendingCall) → p ≡ None
     → IsNextOf (Semaphores units) (Respond r) p → ⊥

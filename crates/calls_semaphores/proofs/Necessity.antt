@@ -11,7 +11,7 @@ use Rattle.std.proofs.lemmas.List.Sorted.{All-permutation}
 use Rattle.calls_core.specs.declared.history.Kind.TheVariants.{Semaphores}
 use Rattle.calls_core.specs.declared.history.Op.{Op}
 use Rattle.calls_core.specs.declared.history.Op.TheVariants.{Advance, Read, Await, Ticket, P, V}
-use Rattle.calls_core.specs.declared.history.Op.TheVariants.{PBoth, Put, Get}
+use Rattle.calls_core.specs.declared.history.Op.TheVariants.{PBoth, Put, Get, Produce, Consume}
 use Rattle.calls_core.specs.declared.history.Reply.{Reply}
 use Rattle.calls_core.specs.declared.history.Event.{Event}
 use Rattle.calls_core.specs.declared.history.PendingCall.{PendingCall}
@@ -128,6 +128,8 @@ took_adds_none i (Await v) r e = refl
 took_adds_none i Ticket r e = refl
 took_adds_none i (Put v) r e = refl
 took_adds_none i Get r e = refl
+took_adds_none i (Produce v) r e = refl
+took_adds_none i Consume r e = refl
 
 not_later : (a b n : ℕ) → (b < a → ⊥) → b ≤ n → a ≤ n
 not_later a b n h le = elim (cases_lt b a) [ inl lt ↦ absurd (h lt) | inr ge ↦ omega arith ]

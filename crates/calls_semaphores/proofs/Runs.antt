@@ -6,7 +6,7 @@ use Rattle.std.proofs.lemmas.Bool.{eqb-true}
 use Rattle.calls_core.specs.declared.history.Kind.TheVariants.{Semaphores}
 use Rattle.calls_core.specs.declared.history.Op.{Op}
 use Rattle.calls_core.specs.declared.history.Op.TheVariants.{Advance, Read, Await, Ticket, P, V}
-use Rattle.calls_core.specs.declared.history.Op.TheVariants.{PBoth, Put, Get}
+use Rattle.calls_core.specs.declared.history.Op.TheVariants.{PBoth, Put, Get, Produce, Consume}
 use Rattle.calls_core.specs.declared.history.Reply.{Reply}
 use Rattle.calls_core.specs.declared.history.Reply.TheVariants.{Done, Number, Timeout}
 use Rattle.calls_core.specs.declared.history.Call.{Call}
@@ -88,6 +88,8 @@ module _ (units : Vec ℕ Global) where
   one_step m i Ticket r s g = absurd s
   one_step m i (Put v) r s g = absurd s
   one_step m i Get r s g = absurd s
+  one_step m i (Produce v) r s g = absurd s
+  one_step m i Consume r s g = absurd s
 
   pub run_count : (m : ℕ → ℕ) (i : ℕ) (cs : List Call) → Each (λ c. IsOp c.op) cs
       → IsLegalHistory m cs

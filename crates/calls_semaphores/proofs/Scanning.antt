@@ -10,7 +10,7 @@ use Rattle.std.proofs.lemmas.Option.{slice_get_within, get_or_from_slice_get}
 use Rattle.calls_core.specs.declared.history.Kind.TheVariants.{Semaphores}
 use Rattle.calls_core.specs.declared.history.Op.{Op}
 use Rattle.calls_core.specs.declared.history.Op.TheVariants.{Advance, Read, Await, Ticket, P, V}
-use Rattle.calls_core.specs.declared.history.Op.TheVariants.{PBoth, Put, Get}
+use Rattle.calls_core.specs.declared.history.Op.TheVariants.{PBoth, Put, Get, Produce, Consume}
 use Rattle.calls_core.specs.declared.history.Reply.{Reply}
 use Rattle.calls_core.specs.declared.history.Reply.TheVariants.{Done}
 use Rattle.calls_core.specs.declared.history.Action.TheVariants.{Invoke, Respond}
@@ -132,6 +132,8 @@ distinct_op units (Await v) h = tt
 distinct_op units Ticket h = tt
 distinct_op units (Put v) h = tt
 distinct_op units Get h = tt
+distinct_op units (Produce v) h = tt
+distinct_op units Consume h = tt
 
 -- a call takes units only of semaphores of the bank
 in_bank : (units : Vec ℕ Global) (op : Op) (i : ℕ) → IsOp units op → takes i op ≡ true
@@ -149,6 +151,8 @@ in_bank units (Await v) i h e = absurd h
 in_bank units Ticket i h e = absurd h
 in_bank units (Put v) i h e = absurd h
 in_bank units Get i h e = absurd h
+in_bank units (Produce v) i h e = absurd h
+in_bank units Consume i h e = absurd h
 
 pub left_start : (units : List ℕ) (b : Bank) → IsOpened units b → AreLeft units [] b
 left_start units b h = record {

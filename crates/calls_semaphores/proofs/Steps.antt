@@ -13,7 +13,7 @@ use Rattle.std.proofs.lemmas.List.Sorted.{IsPermutation-append_comm, IsPermutati
 use Rattle.calls_core.specs.declared.history.Kind.TheVariants.{Semaphores}
 use Rattle.calls_core.specs.declared.history.Op.{Op}
 use Rattle.calls_core.specs.declared.history.Op.TheVariants.{Advance, Read, Await, Ticket, P, V}
-use Rattle.calls_core.specs.declared.history.Op.TheVariants.{PBoth, Put, Get}
+use Rattle.calls_core.specs.declared.history.Op.TheVariants.{PBoth, Put, Get, Produce, Consume}
 use Rattle.calls_core.specs.declared.history.Reply.{Reply}
 use Rattle.calls_core.specs.declared.history.Reply.TheVariants.{Done, Number, Timeout}
 use Rattle.calls_core.specs.declared.history.Action.TheVariants.{Invoke, Respond}
@@ -157,6 +157,8 @@ v_gives m (Await v) e = cc
 v_gives m Ticket e = cc
 v_gives m (Put v) e = cc
 v_gives m Get e = cc
+v_gives m (Produce v) e = cc
+v_gives m Consume e = cc
 
 or_left : (x y : Bool) → x ≡ true → (x || y) ≡ true
 or_left x y e = ap (λ b. b || y) e
@@ -186,6 +188,8 @@ bank_gives units m (Await v) r h s f = absurd h
 bank_gives units m Ticket r h s f = absurd h
 bank_gives units m (Put v) r h s f = absurd h
 bank_gives units m Get r h s f = absurd h
+bank_gives units m (Produce v) r h s f = absurd h
+bank_gives units m Consume r h s f = absurd h
 
 suits_next : (units : Vec ℕ Global) (r : Reply) (o : PendingCall) (p : Option PendingCall)
     → p ≡ Some o → IsNextOf (Semaphores units) (Respond r) p → Suits o.op r

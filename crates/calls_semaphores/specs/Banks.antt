@@ -2,7 +2,7 @@
 use Rattle.std.specs.Prelude.{ℕ, ◌+◌, ◌==◌, Bool, true, false, ◌&&◌, ◌||◌, nat_le, count_by, List}
 use Rattle.calls_core.specs.declared.history.Op.{Op}
 use Rattle.calls_core.specs.declared.history.Op.TheVariants.{Advance, Read, Await, Ticket, P, V}
-use Rattle.calls_core.specs.declared.history.Op.TheVariants.{PBoth, Put, Get}
+use Rattle.calls_core.specs.declared.history.Op.TheVariants.{PBoth, Put, Get, Produce, Consume}
 use Rattle.calls_core.specs.declared.history.Reply.{Reply}
 use Rattle.calls_core.specs.declared.history.Reply.TheVariants.{Done, Number, Timeout}
 use Rattle.calls_core.specs.declared.history.Event.{Event}
@@ -21,6 +21,8 @@ adds i (V j) = j == i
 adds i (PBoth j k) = false
 adds i (Put v) = false
 adds i Get = false
+adds i (Produce v) = false
+adds i Consume = false
 
 -- whether this takes a unit of semaphore i, unless it times out
 abbrev pub takes : ℕ → Op → Bool
@@ -33,6 +35,8 @@ takes i (V j) = false
 takes i (PBoth j k) = (j == i) || (k == i)
 takes i (Put v) = false
 takes i Get = false
+takes i (Produce v) = false
+takes i Consume = false
 
 abbrev pub is_done : Reply → Bool
 is_done Done = true

@@ -87,8 +87,8 @@ impl Bank {
                     None
                 }
             }
-            Op::Advance | Op::Read | Op::Await(_) | Op::Ticket | Op::V(_) | Op::Put(_) | Op::Get =>
-                None,
+            Op::Advance | Op::Read | Op::Await(_) | Op::Ticket | Op::V(_) => None,
+            Op::Put(_) | Op::Get | Op::Produce(_) | Op::Consume => None,
         }
     }
 
@@ -105,8 +105,8 @@ impl Bank {
                 self.take_one(i);
                 self.take_one(j);
             }
-            Op::Advance | Op::Read | Op::Await(_) | Op::Ticket | Op::V(_) | Op::Put(_) | Op::Get =>
-                {}
+            Op::Advance | Op::Read | Op::Await(_) | Op::Ticket | Op::V(_) => {}
+            Op::Put(_) | Op::Get | Op::Produce(_) | Op::Consume => {}
         }
     }
 

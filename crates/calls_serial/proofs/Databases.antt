@@ -3,7 +3,7 @@ use Rattle.std.proofs.Common.{ℕ, List, [], ◌∷◌, Option, Some, None}
 use Rattle.calls_core.specs.declared.history.Kind.TheVariants.{Cell, Database}
 use Rattle.calls_core.specs.declared.history.Op.{Op}
 use Rattle.calls_core.specs.declared.history.Op.TheVariants.{Advance, Read, Await, Ticket, P, V}
-use Rattle.calls_core.specs.declared.history.Op.TheVariants.{PBoth, Put, Get}
+use Rattle.calls_core.specs.declared.history.Op.TheVariants.{PBoth, Put, Get, Produce, Consume}
 use Rattle.calls_core.specs.declared.history.Action.{Action}
 use Rattle.calls_core.specs.declared.history.Action.TheVariants.{Invoke, Respond}
 use Rattle.calls_core.specs.declared.history.Event.{Event}
@@ -24,6 +24,8 @@ takes n Ticket h = absurd h
 takes n (P i) h = absurd h
 takes n (V i) h = absurd h
 takes n (PBoth i j) h = absurd h
+takes n (Produce v) h = absurd h
+takes n Consume h = absurd h
 
 pub next : (n : ℕ) (a : Action) (o : Option PendingCall) → IsNextOf (Database n) a o
     → IsNextOf Cell a o

@@ -11,7 +11,7 @@ use Rattle.std.proofs.lemmas.List.{append_assoc, append-nil}
 use Rattle.calls_core.specs.declared.history.Kind.TheVariants.{Cell}
 use Rattle.calls_core.specs.declared.history.Op.{Op}
 use Rattle.calls_core.specs.declared.history.Op.TheVariants.{Advance, Read, Await, Ticket, P, V}
-use Rattle.calls_core.specs.declared.history.Op.TheVariants.{PBoth, Put, Get}
+use Rattle.calls_core.specs.declared.history.Op.TheVariants.{PBoth, Put, Get, Produce, Consume}
 use Rattle.calls_core.specs.declared.history.Reply.{Reply}
 use Rattle.calls_core.specs.declared.history.Reply.TheVariants.{Done, Number}
 use Rattle.calls_core.specs.declared.history.PendingCall.{PendingCall}
@@ -279,6 +279,8 @@ put_fits Ticket t s = absurd t
 put_fits (P i) t s = absurd t
 put_fits (V i) t s = absurd t
 put_fits (PBoth i j) t s = absurd t
+put_fits (Produce v) t s = absurd t
+put_fits Consume t s = absurd t
 
 pub completed_in : (end t : ℕ) (done : List Call) (pending : List PendingCall) (w at : ℕ)
     (r : Reply) (o : PendingCall) (hs more : List StageView) (ls : List Link)
@@ -358,6 +360,8 @@ is_put_value Ticket e = absurd (let no : false ≡ true = e in cc)
 is_put_value (P i) e = absurd (let no : false ≡ true = e in cc)
 is_put_value (V i) e = absurd (let no : false ≡ true = e in cc)
 is_put_value (PBoth i j) e = absurd (let no : false ≡ true = e in cc)
+is_put_value (Produce v) e = absurd (let no : false ≡ true = e in cc)
+is_put_value Consume e = absurd (let no : false ≡ true = e in cc)
 
 first_put : (os : List PendingCall) (o : PendingCall) → first_of (pending_puts os) ≡ Some o
     → Contains os o × (is_put o.op ≡ true)

@@ -8,7 +8,7 @@ use Rattle.std.proofs.lemmas.Option.{same_Some}
 use Rattle.calls_core.specs.declared.history.Kind.TheVariants.{Cell}
 use Rattle.calls_core.specs.declared.history.Op.{Op}
 use Rattle.calls_core.specs.declared.history.Op.TheVariants.{Advance, Read, Await, Ticket, P, V}
-use Rattle.calls_core.specs.declared.history.Op.TheVariants.{PBoth, Put, Get}
+use Rattle.calls_core.specs.declared.history.Op.TheVariants.{PBoth, Put, Get, Produce, Consume}
 use Rattle.calls_core.specs.declared.history.Reply.{Reply}
 use Rattle.calls_core.specs.declared.history.Reply.TheVariants.{Done, Number, Timeout}
 use Rattle.calls_core.specs.declared.history.Action.{Action}
@@ -218,6 +218,8 @@ put_cases Ticket = inl refl
 put_cases (P i) = inl refl
 put_cases (V i) = inl refl
 put_cases (PBoth i j) = inl refl
+put_cases (Produce v) = inl refl
+put_cases Consume = inl refl
 
 first_cases : (o : Option PendingCall) → (o ≡ None) ⊎ ((p : PendingCall) × (o ≡ Some p))
 first_cases None = inl refl
@@ -375,6 +377,8 @@ module _ (end t : ℕ) (done : List Call) (pending : List PendingCall)
     ended (P i) q e is h s f = absurd h
     ended (V i) q e is h s f = absurd h
     ended (PBoth i j) q e is h s f = absurd h
+    ended (Produce v) q e is h s f = absurd h
+    ended Consume q e is h s f = absurd h
 
     pub responded : IsFitting o r → After
     responded f = ended o.op r refl refl f.takes f.suits f

@@ -10,7 +10,7 @@ use Rattle.std.proofs.lemmas.List.Sorted.{Contains-permutation, All-permutation}
 use Rattle.calls_core.specs.declared.history.Kind.TheVariants.{Cell}
 use Rattle.calls_core.specs.declared.history.Op.{Op}
 use Rattle.calls_core.specs.declared.history.Op.TheVariants.{Advance, Read, Await, Ticket, P, V}
-use Rattle.calls_core.specs.declared.history.Op.TheVariants.{PBoth, Put, Get}
+use Rattle.calls_core.specs.declared.history.Op.TheVariants.{PBoth, Put, Get, Produce, Consume}
 use Rattle.calls_core.specs.declared.history.Reply.{Reply}
 use Rattle.calls_core.specs.declared.history.Reply.TheVariants.{Done, Number}
 use Rattle.calls_core.specs.declared.history.PendingCall.{PendingCall}
@@ -59,6 +59,8 @@ after_is m Ticket r h = absurd h
 after_is m (P i) r h = absurd h
 after_is m (V i) r h = absurd h
 after_is m (PBoth i j) r h = absurd h
+after_is m (Produce v) r h = absurd h
+after_is m Consume r h = absurd h
 
 source : (m : ℕ → ℕ) (v k : ℕ) (cs : List Call) (d : Call) → Each Access cs → IsLegalHistory m cs
     → k < length cs → (get_or cs k d).op ≡ Get → (get_or cs k d).reply ≡ Number v

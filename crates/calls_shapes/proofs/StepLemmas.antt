@@ -1,9 +1,11 @@
 -- How the steps grow.
-use Rattle.std.proofs.Common.{◌≡◌, ℕ, suc, ◌+◌, ◌<◌, ◌==◌, Bool, true, false, cond, if◌then◌else◌}
+use Rattle.std.proofs.Common.{◌≡◌, ℕ, suc, ◌+◌, ◌-◌, ◌<◌, ◌==◌, Bool, true, false, cond, if◌then◌else◌}
 use Rattle.std.proofs.Common.{List, [], ◌∷◌, ◌++◌, length, drop, get_or, arith, ap, sym, ◌∙◌, refl}
 use Rattle.std.proofs.Common.{drop-cons, append_assoc, subst}
 use Rattle.std.proofs.lemmas.Bool.{eq-eqb, ne_eqb}
 use Rattle.calls_core.specs.declared.history.Placed.{Placed}
+use Rattle.calls_core.specs.declared.history.Op.TheVariants.{Produce}
+use Rattle.calls_core.specs.declared.history.Reply.TheVariants.{Done}
 use Rattle.calls_core.specs.Linearizations.{after}
 use Rattle.calls_shapes.specs.declared.steps.Step.{Step}
 use Rattle.calls_shapes.specs.Steps.{steps_of}
@@ -53,40 +55,70 @@ step_same k i m order n d done all lt is so_far =
     ∙ ap (λ zs. done ++ steps_of k i m zs) (sym (from_here order n d lt))
     ∙ so_far
 
--- the object's number at the index has this value, and the steps so far and those of the rest of
--- the order are all steps
-abbrev pub SoFar : ℕ → ℕ → List Placed → ℕ → List Step → ℕ → List Step → Type 0
-SoFar k i order n steps value all =
-    (m : ℕ → ℕ) × (m i ≡ value) × (steps ++ steps_of k i m (drop n order) ≡ all)
+-- the numbers of the object have this value at the index, and this one at index 2, and the steps so
+-- far and those that come are all
+abbrev pub SoFar : ℕ → ℕ → List Placed → ℕ → List Step → ℕ → ℕ → List Step → Type 0
+SoFar k i order n steps value produced all =
+    (m : ℕ → ℕ) × (m i ≡ value) × (m 2 ≡ produced)
+    × (steps ++ steps_of k i m (drop n order) ≡ all)
+
+-- what a call makes of the number at index j
+abbrev Makes : ℕ → ℕ → ℕ → ℕ → Placed → Type 0
+Makes j value produced made p = (m : ℕ → ℕ) → m j ≡ value → m 2 ≡ produced
+    → made ≡ after m p.call.op p.call.reply j
 
 pub so_far_more : (k i : ℕ) (order : List Placed) (n : ℕ) (d : Placed) (old new : List Step)
-    (value made next : ℕ) (all : List Step) → n < length order
+    (value made next produced more further : ℕ) (all : List Step) → n < length order
     → (get_or order n d).call.object ≡ k
     → new ≡ old ++ (let s : Step = record { point = (get_or order n d).point; value = made } in s)
     ∷ []
-    → ((m : ℕ → ℕ) → m i ≡ value
-    → made ≡ after m (get_or order n d).call.op (get_or order n d).call.reply i) → next ≡ made
-    → SoFar k i order n old value all → SoFar k i order (n + 1) new next all
-so_far_more k i order n d old new value made next all lt is grown by same (m, here, so_far) =
+    → Makes i value produced made (get_or order n d) → next ≡ made
+    → Makes 2 produced produced more (get_or order n d) → further ≡ more
+    → SoFar k i order n old value produced all → SoFar k i order (n + 1) new next further all
+so_far_more k i order n d old new value made next produced more further all lt is grown by same two
+    last (m, here, there, so_far) =
     let p = get_or order n d in
-    let made_is = by m here in
+    let made_is = by m here there in
     let put : new ≡ old ++ step m i p ∷ [] =
     grown ∙ ap (λ v. old ++ (let s : Step = record { point = p.point; value = v } in s) ∷ [])
     made_is in (
       after m p.call.op p.call.reply,
       sym made_is ∙ sym same,
+      sym (two m there there) ∙ sym last,
       ap (λ zs. zs ++ steps_of k i (after m p.call.op p.call.reply) (drop (n + 1) order)) put
           ∙ step_more k i m order n d old all lt (eq-eqb p.call.object k is) so_far,
     )
 
 pub so_far_same : (k i : ℕ) (order : List Placed) (n : ℕ) (d : Placed) (old new : List Step)
-    (value next : ℕ) (all : List Step) → n < length order
-    → ((get_or order n d).call.object ≡ k → ⊥) → new ≡ old → next ≡ value
-    → SoFar k i order n old value all → SoFar k i order (n + 1) new next all
-so_far_same k i order n d old new value next all lt is kept same (m, here, so_far) = (
-  m,
-  here ∙ sym same,
-  ap (λ zs. zs ++ steps_of k i m (drop (n + 1) order)) kept
-      ∙ step_same k i m order n d old all lt
-      (ne_eqb (get_or order n d).call.object k is) so_far,
-)
+    (value next produced further : ℕ) (all : List Step) → n < length order
+    → ((get_or order n d).call.object ≡ k → ⊥) → new ≡ old → next ≡ value → further ≡ produced
+    → SoFar k i order n old value produced all → SoFar k i order (n + 1) new next further all
+so_far_same k i order n d old new value next produced further all lt is kept same last
+    (m, here, there, so_far) = (
+      m,
+      here ∙ sym same,
+      there ∙ sym last,
+      ap (λ zs. zs ++ steps_of k i m (drop (n + 1) order)) kept
+          ∙ step_same k i m order n d old all lt
+          (ne_eqb (get_or order n d).call.object k is) so_far,
+    )
+
+-- AFTER AN ITEM WAS PRODUCED
+
+elsewhere : (m : ℕ → ℕ) (item index : ℕ) → (index ≡ 2 → ⊥)
+    → after m (Produce item) Done index ≡ cond (3 + m 2 == index) item (m index)
+elsewhere m item index apart =
+    ap (λ b. cond b (m 2 + 1) (cond (3 + m 2 == index) item (m index)))
+    (ne_eqb 2 index (λ e. apart (sym e)))
+
+pub item_here : (m : ℕ → ℕ) (item index : ℕ) → index ≡ 3 + m 2
+    → item ≡ after m (Produce item) Done index
+item_here m item index is =
+    sym (elsewhere m item index (λ two. omega (arith, two))
+    ∙ ap (λ b. cond b item (m index)) (eq-eqb (3 + m 2) index (sym is)))
+
+pub item_not : (m : ℕ → ℕ) (item index : ℕ) → (index ≡ 2 → ⊥) → (index ≡ 3 + m 2 → ⊥)
+    → m index ≡ after m (Produce item) Done index
+item_not m item index apart other =
+    sym (elsewhere m item index apart
+    ∙ ap (λ b. cond b item (m index)) (ne_eqb (3 + m 2) index (λ e. other (sym e))))

@@ -11,6 +11,8 @@ use Rattle.calls_counts.specs.Faults.{least}
 use Rattle.calls_tickets.specs.declared.fault.Fault as tickets
 use Rattle.calls_tickets.specs.declared.fault.Fault.TheVariants as ticket
 use Rattle.calls_semaphores.specs.declared.fault.Fault as units
+use Rattle.calls_buffers.specs.declared.fault.Fault as items
+use Rattle.calls_buffers.specs.declared.fault.Fault.TheVariants as item
 use Rattle.calls_cells.specs.declared.outcome.Fault as cells
 use Rattle.calls_cells.specs.declared.outcome.Fault.TheVariants.{Distinct, Serial}
 use Rattle.calls_distinct.specs.declared.cell.Fault as distincts
@@ -44,11 +46,20 @@ abbrev pub stored_calls : cells.Fault → List Call
 stored_calls (Distinct f) = distinct_calls f
 stored_calls (Serial f) = f.gets.items
 
+abbrev pub item_calls : items.Fault → List Call
+item_calls (item.Unproduced c taken put) = c ∷ []
+item_calls (item.Overfull c put taken) = c ∷ []
+item_calls (item.Crowded c left pending) = c ∷ []
+item_calls (item.Overtaken p c before later all) = p ∷ c ∷ []
+item_calls (item.Passed p c left pending) = p ∷ c ∷ []
+item_calls (item.Squeezed q p left pending) = q ∷ p ∷ []
+
 abbrev pub faulty_calls : Fault → List Call
 faulty_calls (faults.Count f) = counted_calls f
 faulty_calls (faults.Ticket f) = drawn_calls f
 faulty_calls (faults.Units f) = f.call ∷ []
 faulty_calls (faults.Value f) = stored_calls f
+faulty_calls (faults.Items f) = item_calls f
 
 -- THE COURSES OF ITS STAIRS
 
@@ -113,3 +124,4 @@ spans_of kinds k (faults.Count f) = count_spans (start kinds k 0) k f
 spans_of kinds k (faults.Units f) = unit_spans (start kinds k f.index) f
 spans_of kinds k (faults.Ticket f) = []
 spans_of kinds k (faults.Value f) = []
+spans_of kinds k (faults.Items f) = []

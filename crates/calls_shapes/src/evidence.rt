@@ -1,7 +1,7 @@
 //! The evidence of a fault: the calls that it names, and the courses of its stairs.
 ghost use Rattle.std.specs.Prelude.{◌≡◌, IfOk};
 ghost use Rattle.calls_counts.specs.Faults.{least};
-ghost use Rattle.calls_shapes.specs.Evidence.{faulty_calls, spans_of};
+ghost use Rattle.calls_shapes.specs.Evidence.{faulty_calls, spans_of, item_calls};
 ghost use Rattle.calls_shapes.specs.Evidence.{count_spans, unit_spans};
 ghost use Rattle.calls_shapes.specs.Evidence.{few_span, many_span, since_span};
 
@@ -31,6 +31,20 @@ fn list_calls(alloc: Global, calls: &[Call]) -> Result<Vec<Call>, AllocError>
     calls.iter().copied().collect(alloc)
 }
 
+/// Returns the calls that a fault of a buffer names.
+fn item_calls(alloc: Global, fault: &calls_buffers::Fault) -> Result<Vec<Call>, AllocError>
+    ensures { IfOk result (λ v. v.items ≡ item_calls fault.now) }
+{
+    match *fault {
+        calls_buffers::Fault::Unproduced { consume, .. } => list_calls(alloc, &[consume]),
+        calls_buffers::Fault::Overfull { call, .. } => list_calls(alloc, &[call]),
+        calls_buffers::Fault::Crowded { call, .. } => list_calls(alloc, &[call]),
+        calls_buffers::Fault::Overtaken { put, consume, .. } => list_calls(alloc, &[put, consume]),
+        calls_buffers::Fault::Passed { put, consume, .. } => list_calls(alloc, &[put, consume]),
+        calls_buffers::Fault::Squeezed { full, put, .. } => list_calls(alloc, &[full, put]),
+    }
+}
+
 /// Returns the calls that a fault names, in the order in which it names them.
 pub fn faulty_calls(alloc: Global, fault: &Fault) -> Result<Vec<Call>, AllocError>
     ensures { IfOk result (λ v. v.items ≡ faulty_calls fault.now) }
@@ -56,6 +70,7 @@ pub fn faulty_calls(alloc: Global, fault: &Fault) -> Result<Vec<Call>, AllocErro
                 calls_distinct::Fault::Alternate(a, b, c, d) => list_calls(alloc, &[a, b, c, d]),
             },
         },
+        Fault::Items(fault) => item_calls(alloc, fault),
     }
 }
 
@@ -166,6 +181,6 @@ pub fn spans_of(
             let index = fault.index;
             unit_spans(alloc, start_of(kinds, Track { object, index }), fault)
         }
-        Fault::Ticket(_) | Fault::Value(_) => Ok(Vec::new(alloc)),
+        Fault::Ticket(_) | Fault::Value(_) | Fault::Items(_) => Ok(Vec::new(alloc)),
     }
 }

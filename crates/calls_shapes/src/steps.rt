@@ -1,5 +1,5 @@
 //! The numbers of an object along a linearization.
-ghost use Rattle.std.specs.Prelude.{◌≡◌, ℕ, ◌+◌, IfOk};
+ghost use Rattle.std.specs.Prelude.{◌≡◌, ◌↔◌, ℕ, ◌+◌, IfOk, IsTrue};
 ghost use Rattle.calls_core.specs.Linearizations.{after, start};
 ghost use Rattle.calls_shapes.specs.Steps.{steps_of};
 
@@ -35,6 +35,7 @@ pub fn start_of(kinds: &[Kind], track: Track) -> usize
             Some(units) => *units,
             None => 0,
         },
+        Some(Kind::Buffer(room)) => { if track.index == 0 { *room } else { 0 } }
         _ => 0,
     }
 }
@@ -49,9 +50,44 @@ fn succ(value: usize) -> Result<usize, AllocError>
     }
 }
 
-/// Returns the number at an index after a call, if it was `value` before.
-fn next(value: usize, index: usize, op: Op, reply: Reply) -> Result<usize, AllocError>
-    ensures { IfOk result (λ n. (m : ℕ → ℕ) → m index ≡ value → n ≡ after m op reply index) }
+/// Returns whether the item that is produced after so many others has this index.
+fn is_next_item(index: usize, produced: usize) -> bool
+    ensures { IsTrue result ↔ (index ≡ 3 + produced) }
+{
+    index > 2 && index - 3 == produced
+}
+
+/// Returns the number at an index after an item was produced, if it was this before, and that at
+/// index 2, of how many were produced, this.
+#[tactic(auto, using(crate::proofs::StepLemmas::item_here, crate::proofs::StepLemmas::item_not))]
+fn next_produced(
+    value: usize,
+    produced: usize,
+    index: usize,
+    item: usize,
+) -> Result<usize, AllocError>
+    ensures { IfOk result (λ n. (m : ℕ → ℕ) → m index ≡ value → m 2 ≡ produced
+        → n ≡ after m (Op.Produce item) Reply.Done index) }
+{
+    if index == 2 {
+        return succ(value);
+    }
+    if is_next_item(index, produced) {
+        return Ok(item);
+    }
+    Ok(value)
+}
+
+/// Returns the number at an index after a call, if it was this before, and that at index 2 this.
+fn next(
+    value: usize,
+    produced: usize,
+    index: usize,
+    op: Op,
+    reply: Reply,
+) -> Result<usize, AllocError>
+    ensures { IfOk result (λ n. (m : ℕ → ℕ) → m index ≡ value → m 2 ≡ produced
+        → n ≡ after m op reply index) }
 {
     match (op, reply) {
         (Op::Advance | Op::Ticket, _) => { if index == 0 { succ(value) } else { Ok(value) } }
@@ -71,7 +107,11 @@ fn next(value: usize, index: usize, op: Op, reply: Reply) -> Result<usize, Alloc
             }
         }
         (Op::Put(v), _) => { if index == 0 { Ok(v) } else { Ok(value) } }
+        (Op::Produce(item), Reply::Done) => next_produced(value, produced, index, item),
+        (Op::Consume, Reply::Number(_)) => { if index == 1 { succ(value) } else { Ok(value) } }
         (Op::P(_) | Op::PBoth(_, _), Reply::Number(_) | Reply::Timeout) => Ok(value),
+        (Op::Produce(_), Reply::Number(_) | Reply::Timeout) => Ok(value),
+        (Op::Consume, Reply::Done | Reply::Timeout) => Ok(value),
         (Op::Read | Op::Await(_) | Op::Get, _) => Ok(value),
     }
 }
@@ -88,10 +128,18 @@ pub fn steps_of(
 {
     let mut steps = Vec::new(alloc);
     let mut value = start_of(kinds, track);
+    let mut produced = start_of(
+        kinds,
+        Track {
+            object: track.object,
+            index: 2,
+        },
+    );
     for placed in order {
         let call = &placed.call;
         if call.object == track.object {
-            value = next(value, track.index, call.op, call.reply)?;
+            value = next(value, produced, track.index, call.op, call.reply)?;
+            produced = next(produced, produced, 2, call.op, call.reply)?;
             steps.push(Step {
                 point: placed.point,
                 value,

@@ -56,6 +56,8 @@ fn op(words: &[&str]) -> Option<Op> {
         "pboth" => Some(Op::PBoth(number(words, 1)?, number(words, 2)?)),
         "put" => Some(Op::Put(number(words, 1)?)),
         "get" => Some(Op::Get),
+        "produce" => Some(Op::Produce(number(words, 1)?)),
+        "consume" => Some(Op::Consume),
         _ => None,
     }
 }
@@ -108,6 +110,10 @@ pub fn read_line(alloc: Global, text: &str) -> Result<Option<Line>, AllocError> 
         "cell" => Ok(Some(Line::Object(Kind::Cell))),
         "database" => match number(words, 1) {
             Some(n) => Ok(Some(Line::Object(Kind::Database(n)))),
+            None => Ok(None),
+        },
+        "buffer" => match number(words, 1) {
+            Some(n) => Ok(Some(Line::Object(Kind::Buffer(n)))),
             None => Ok(None),
         },
         "run" => Ok(Some(Line::Run)),

@@ -1,6 +1,6 @@
 //! Writes the result for a history.
 use calls_core::{Call, Op, Placed, Reply};
-use calls_verdict::{Fault, Misuse, Refusal, Verdict};
+use calls_verdict::{Cause, Fault, Misuse, Refusal, Undecided, Verdict};
 use std::io;
 use std::io::Write;
 
@@ -36,6 +36,8 @@ fn write_op<W: Write>(out: &mut W, op: Op) -> io::Result<()> {
         Op::PBoth(first, second) => write!(out, "pboth {first} {second}"),
         Op::Put(value) => write!(out, "put {value}"),
         Op::Get => write!(out, "get"),
+        Op::Produce(item) => write!(out, "produce {item}"),
+        Op::Consume => write!(out, "consume"),
     }
 }
 
@@ -98,6 +100,20 @@ fn write_value<W: Write>(out: &mut W, fault: &calls_cells::Fault) -> io::Result<
     }
 }
 
+/// Writes a fault of a buffer.
+fn write_items<W: Write>(out: &mut W, fault: calls_buffers::Fault) -> io::Result<()> {
+    use calls_buffers::Fault;
+
+    match fault {
+        Fault::Unproduced { consume, .. } => write_named(out, "unproduced", &[consume]),
+        Fault::Overfull { call, .. } => write_named(out, "overfull", &[call]),
+        Fault::Crowded { call, .. } => write_named(out, "crowded", &[call]),
+        Fault::Overtaken { put, consume, .. } => write_named(out, "overtaken", &[put, consume]),
+        Fault::Passed { put, consume, .. } => write_named(out, "passed", &[put, consume]),
+        Fault::Squeezed { full, put, .. } => write_named(out, "squeezed", &[full, put]),
+    }
+}
+
 /// Writes a refusal.
 fn write_refusal<W: Write>(out: &mut W, refusal: &Refusal) -> io::Result<()> {
     write!(out, "refused {} {} ", refusal.at, refusal.object)?;
@@ -110,6 +126,19 @@ fn write_refusal<W: Write>(out: &mut W, refusal: &Refusal) -> io::Result<()> {
             writeln!(out)
         }
         Fault::Value(fault) => write_value(out, fault),
+        Fault::Items(fault) => write_items(out, *fault),
+    }
+}
+
+/// Writes that an object is not decided.
+fn write_open<W: Write>(out: &mut W, open: &Undecided) -> io::Result<()> {
+    match open.cause {
+        Cause::Values(cause) => writeln!(
+            out,
+            "undecided {} {} {} {}",
+            open.object, cause.value, cause.first.first, cause.second.first
+        ),
+        Cause::Unfound(position) => writeln!(out, "undecided {} from {position}", open.object),
     }
 }
 
@@ -124,13 +153,6 @@ pub fn write_verdict<W: Write>(out: &mut W, verdict: &Verdict) -> io::Result<()>
             writeln!(out, "end")
         }
         Verdict::Refused(refusal) => write_refusal(out, refusal),
-        Verdict::NotDecided(open) => {
-            let cause = open.cause;
-            writeln!(
-                out,
-                "undecided {} {} {} {}",
-                open.object, cause.value, cause.first.first, cause.second.first
-            )
-        }
+        Verdict::NotDecided(open) => write_open(out, open),
     }
 }

@@ -8,9 +8,9 @@ use Rattle.std.specs.Global.{Vec}
 use Rattle.ec_heading.specs.declared.group.Group.{Group}
 use Rattle.calls_core.specs.declared.history.Kind.{Kind}
 use Rattle.calls_core.specs.declared.history.Kind.TheVariants.{Eventcount, Sequencer, Cell}
-use Rattle.calls_core.specs.declared.history.Kind.TheVariants.{Database, Semaphores}
+use Rattle.calls_core.specs.declared.history.Kind.TheVariants.{Semaphores}
 use Rattle.ec_heading.specs.HeadingModel.{HeadingModel}
-use Rattle.calls_text.specs.Recordings.{HasFrom, HasUnits, HasGroups, cells_of, initial_of}
+use Rattle.calls_text.specs.Recordings.{HasFrom, HasUnits, HasGroups, kind_of_group, initial_of}
 use Rattle.calls_text.specs.Recordings.{AreKinds, start_count, first_sequencer, first_cell}
 use Rattle.calls_text.specs.Recordings.{semaphores, first_group}
 use Rattle.calls_text.specs.kept.Adding.{Grows}
@@ -68,19 +68,19 @@ from_grows old new n count more kind long has grows = λ i lt.
 -- the first k groups
 abbrev pub HasGroupsTo : List Kind → ℕ → List Group → ℕ → Type 0
 HasGroupsTo kinds n gs k = (i : ℕ) (g : Group) → i < k → slice_get gs i ≡ Some g
-    → slice_get kinds (n + i) ≡ Some (Database (cells_of g))
+    → slice_get kinds (n + i) ≡ Some (kind_of_group g)
 
 pub groups_push : (kinds : List Kind) (n k : ℕ) (gs : List Group) (h : Group)
     → length kinds ≡ n + k → slice_get gs k ≡ Some h → HasGroupsTo kinds n gs k
-    → HasGroupsTo (kinds ++ Database (cells_of h) ∷ []) n gs (k + 1)
+    → HasGroupsTo (kinds ++ kind_of_group h ∷ []) n gs (k + 1)
 groups_push kinds n k gs h long at has = λ i g lt is.
     ⊎_elim
     (λ (below : i < k).
-    get_front kinds (Database (cells_of h) ∷ []) (n + i) (omega arith) ∙ has i g below is)
+    get_front kinds (kind_of_group h ∷ []) (n + i) (omega arith) ∙ has i g below is)
     (λ (above : k ≤ i). (let same : i ≡ k = omega arith in
     let one : h ≡ g = cc (at, is, ap (slice_get gs) same) in
-    get_last kinds (Database (cells_of h)) (n + i) (omega arith)
-    ∙ ap (λ (x : Group). Some (Database (cells_of x))) one))
+    get_last kinds (kind_of_group h) (n + i) (omega arith)
+    ∙ ap (λ (x : Group). Some (kind_of_group x)) one))
     (cases_lt i k)
 
 pub groups_all : (kinds : List Kind) (n k : ℕ) (gs : List Group) → k ≡ length gs
@@ -140,6 +140,6 @@ are_kinds h from k0 k1 k2 k3 k4 k5 e q x gs hs empty ie iq ix ig ih g1 a1 g2 a2 
       units = subst (λ n. HasUnits k5 n h.groups) at_units
           (subst (HasUnits k5 (length k3)) ig (units_grow k4 k5 (length k3) (length hs) gs
           (omega arith) a4 g5));
-      databases = subst (λ n. HasGroups k5 n h.groups) at_groups
+      by_group = subst (λ n. HasGroups k5 n h.groups) at_groups
           (subst (HasGroups k5 (length k4)) ih a5);
     }

@@ -20,9 +20,10 @@ use Rattle.calls_text.specs.declared.object.Object.{Object}
 use Rattle.calls_text.specs.declared.object.Object.TheVariants as objects
 use Rattle.calls_text.specs.Verbs.{verb_word, tail_of}
 use Rattle.calls_text.specs.Forms.{is_tail, only_in}
-use Rattle.calls_text.specs.Objects.{object_in, as_semaphore, as_database, semaphore_pair}
+use Rattle.calls_text.specs.Objects.{object_in, as_semaphore, as_database, as_buffer}
+use Rattle.calls_text.specs.Objects.{semaphore_pair}
 use Rattle.ec_heading.specs.Groups.{both_of}
-use Rattle.calls_text.specs.Objects.{semaphore_in, database_in}
+use Rattle.calls_text.specs.Objects.{semaphore_in, database_in, buffer_in}
 use Rattle.calls_text.specs.Lists.{list_number, lists_after}
 use Rattle.calls_text.specs.Recordings.{first_sequencer, first_cell, first_group}
 use Rattle.calls_text.specs.Reading.{is_no_number, only_number, numbers_in, is_bad_tail}
@@ -34,6 +35,7 @@ use Rattle.calls_text.proofs.ObjectWords.{event_spelled, sequencer_spelled, cell
 use Rattle.calls_text.proofs.ObjectWords.{IsSemaphoreAt, semaphore_named}
 use Rattle.calls_text.proofs.Fitting.{mapped as map_back}
 use Rattle.calls_text.proofs.ObjectWords.{IsDatabaseAt, database_named}
+use Rattle.calls_text.proofs.ObjectWords.{IsBufferAt, buffer_named}
 
 -- PIECES
 
@@ -288,6 +290,35 @@ write_is h lists more o ws obj c =
     ws x (list_number lists (numbers_in ws))) m.2
     (write_to h lists more o ws m.0.0 m.0.1 d good)
 
+-- the word of a group, by the index of its object
+group_again : (h : HeadingModel) (o : List ℕ) (i : ℕ) → group_word h i ≡ o
+    → group_word h (first_group h + i - first_group h) ≡ o
+group_again h o i word =
+    let place : first_group h + i - first_group h ≡ i = omega arith in
+    ap (group_word h) place ∙ word
+
+produce_is : (h : HeadingModel) (lists : List (List ℕ)) (o : List ℕ) (ws : List (List ℕ))
+    (obj : Object) → Names h verbs.Produce o ws obj
+    → IsCallText h lists verbs.Produce o ws obj (only_number ws)
+produce_is h lists o ws obj c =
+    let m = map_back as_buffer (buffer_in h o) obj c.object in
+    let b : IsBufferAt h o m.0 = buffer_named h o m.0 c.heading m.1 in
+    let good : option_map_or is_no_number (only_in ws) false ≡ false = c.good in
+    subst (λ (x : Object). IsCallText h lists verbs.Produce o ws x (only_number ws)) m.2
+    (followed (codes "produce ") o (group_word h (first_group h + m.0.0 - first_group h))
+    (spaced_words ws) (32 ∷ decimal (only_number ws)) (group_again h o m.0.0 b.word)
+    (one_tail ws c.tail good))
+
+consume_is : (h : HeadingModel) (lists : List (List ℕ)) (o : List ℕ) (ws : List (List ℕ))
+    (obj : Object) (n : ℕ) → Names h verbs.Consume o ws obj
+    → IsCallText h lists verbs.Consume o ws obj n
+consume_is h lists o ws obj n c =
+    let m = map_back as_buffer (buffer_in h o) obj c.object in
+    let b : IsBufferAt h o m.0 = buffer_named h o m.0 c.heading m.1 in
+    subst (λ (x : Object). IsCallText h lists verbs.Consume o ws x n) m.2
+    (alone (codes "consume ") o (group_word h (first_group h + m.0.0 - first_group h))
+    (spaced_words ws) (group_again h o m.0.0 b.word) (none_spaced ws c.tail))
+
 named_is : (h : HeadingModel) (lists more : List (List ℕ)) (v : OpWord) (o : List ℕ)
     (ws : List (List ℕ)) (obj : Object) → Names h v o ws obj
     → IsCallText h (lists_of lists v ws ++ more) v o ws obj (number_in lists v ws)
@@ -308,6 +339,9 @@ named_is h lists more verbs.PBoth o ws obj c =
 named_is h lists more verbs.Write o ws obj c = write_is h lists more o ws obj c
 named_is h lists more verbs.Snapshot o ws obj c =
     snapshot_is h (lists ++ more) o ws obj (only_number ws) c
+named_is h lists more verbs.Produce o ws obj c = produce_is h (lists ++ more) o ws obj c
+named_is h lists more verbs.Consume o ws obj c =
+    consume_is h (lists ++ more) o ws obj (only_number ws) c
 
 -- the words of a call are its text, whatever lists are added after it
 pub call_is : (h : HeadingModel) (lists more : List (List ℕ)) (v : OpWord) (o : List ℕ)

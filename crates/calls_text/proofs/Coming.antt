@@ -15,7 +15,7 @@ use Rattle.ec_heading.specs.declared.group.Group.TheVariants as groups
 use Rattle.ec_heading.specs.HeadingModel.{HeadingModel}
 use Rattle.calls_core.specs.declared.history.Kind as sorts
 use Rattle.calls_core.specs.declared.history.Kind.TheVariants.{Eventcount, Sequencer, Cell}
-use Rattle.calls_core.specs.declared.history.Kind.TheVariants.{Database, Semaphores}
+use Rattle.calls_core.specs.declared.history.Kind.TheVariants.{Database, Semaphores, Buffer}
 use Rattle.calls_core.specs.declared.history.Op.{Op}
 use Rattle.calls_core.specs.declared.history.Op.TheVariants as ops
 use Rattle.calls_core.specs.declared.history.Action.{Action}
@@ -157,10 +157,16 @@ takes h from kinds w verbs.PBoth (objects.Pair i one j other common) n are fits 
     )
 takes h from kinds w verbs.Write (objects.Database i d) n are fits right roles =
     by_kind kinds (first_group h + i) (Database d.cells) (ops.Put n)
-    (are.databases i (groups.Database d) fits) tt
+    (are.by_group i (groups.Database d) fits) tt
 takes h from kinds w verbs.Snapshot (objects.Database i d) n are fits right roles =
     by_kind kinds (first_group h + i) (Database d.cells) ops.Get
-    (are.databases i (groups.Database d) fits) tt
+    (are.by_group i (groups.Database d) fits) tt
+takes h from kinds w verbs.Produce (objects.Buffer i b) n are fits right roles =
+    by_kind kinds (first_group h + i) (Buffer b.cells) (ops.Produce n)
+    (are.by_group i (groups.Buffer b) fits) tt
+takes h from kinds w verbs.Consume (objects.Buffer i b) n are fits right roles =
+    by_kind kinds (first_group h + i) (Buffer b.cells) ops.Consume
+    (are.by_group i (groups.Buffer b) fits) tt
 takes h from kinds w v o n are fits right roles = absurd fits
 
 pub may_call : (run : Running) (w : ℕ) (v : OpWord) (o : Object) (ws : List (List ℕ))
@@ -266,6 +272,10 @@ tallied h old new w verbs.Write o n at fits after =
     λ u f few some. other_call old new w (index_of h o) (ops.Put n) refl after u f
 tallied h old new w verbs.Snapshot o n at fits after =
     λ u f few some. other_call old new w (index_of h o) ops.Get refl after u f
+tallied h old new w verbs.Produce o n at fits after =
+    λ u f few some. other_call old new w (index_of h o) (ops.Produce n) refl after u f
+tallied h old new w verbs.Consume o n at fits after =
+    λ u f few some. other_call old new w (index_of h o) ops.Consume refl after u f
 
 -- THE STATE AFTER A CALL
 

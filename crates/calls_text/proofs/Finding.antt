@@ -10,6 +10,7 @@ use Rattle.ec_count.specs.Names.{find_name}
 use Rattle.ec_count.specs.Reserved.{is_name}
 use Rattle.ec_count.specs.declared.target.Target.{Target}
 use Rattle.ec_count.specs.declared.target.Target.TheVariants as target
+use Rattle.ec_buffer.specs.Shapes.{Buffer}
 use Rattle.ec_database.specs.Shapes.{Database}
 use Rattle.ec_semaphore.specs.Shapes.{Semaphore}
 use Rattle.ec_text.proofs.shared.NumberLemmas.{number_again}
@@ -26,7 +27,7 @@ use Rattle.ec_heading.proofs.shared.ReadNames.{HasName, HasBlock, has_block, IsN
 use Rattle.ec_heading.proofs.shared.ReadNames.{block_by, bracketed, word_lacks}
 use Rattle.ec_heading.proofs.shared.DeclKindFacts.{name_called}
 use Rattle.ec_heading.proofs.shared.SpelledWords.{IsPlainWord, found_word, plain_word}
-use Rattle.calls_text.specs.Objects.{semaphore_in, database_in}
+use Rattle.calls_text.specs.Objects.{semaphore_in, database_in, buffer_in}
 use Rattle.calls_text.specs.Spelling.{worker_word, event_word, sequencer_word, cell_name}
 use Rattle.calls_text.specs.Spelling.{group_word}
 use Rattle.calls_text.proofs.FineWords.{Lacks, lacks_append, decimal_lacks, IsFine, digits_length}
@@ -197,4 +198,12 @@ pub database_found : (h : HeadingModel) (i : ℕ) (d : Database) → HasHeaderTr
 database_found h i d has there =
     let found : find_name (group_word h i) h.names ≡ Some (target.Group i) =
     group_found h i (groups.Database d) has there refl in
+    (rw found (rw there refl), group_fine h (group_word h i) (target.Group i) has found)
+
+pub buffer_found : (h : HeadingModel) (i : ℕ) (b : Buffer) → HasHeaderTree h
+    → slice_get h.groups i ≡ Some (groups.Buffer b)
+    → (buffer_in h (group_word h i) ≡ Some (i, b)) × IsFine (group_word h i)
+buffer_found h i b has there =
+    let found : find_name (group_word h i) h.names ≡ Some (target.Group i) =
+    group_found h i (groups.Buffer b) has there refl in
     (rw found (rw there refl), group_fine h (group_word h i) (target.Group i) has found)

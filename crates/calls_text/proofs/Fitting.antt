@@ -4,6 +4,7 @@ use Rattle.std.proofs.lemmas.Option.{slice_get_within}
 use Rattle.std.specs.Prelude.{option_map}
 use Rattle.std.specs.Option.{option_and_then}
 use Rattle.ec_count.specs.Names.{find_name}
+use Rattle.ec_buffer.specs.Shapes as buffers
 use Rattle.ec_database.specs.Shapes as databases
 use Rattle.ec_semaphore.specs.Shapes.{Semaphore}
 use Rattle.ec_heading.specs.declared.group.Group.{Group}
@@ -15,9 +16,11 @@ use Rattle.calls_text.specs.declared.verb.OpWord.TheVariants as verbs
 use Rattle.calls_text.specs.declared.object.Object.{Object}
 use Rattle.calls_text.specs.declared.object.Object.TheVariants as objects
 use Rattle.calls_text.specs.Objects.{group_place, group_at, group_in, placed_semaphore}
-use Rattle.calls_text.specs.Objects.{placed_database, semaphore_in, database_in}
+use Rattle.calls_text.specs.Objects.{placed_database, placed_buffer}
+use Rattle.calls_text.specs.Objects.{semaphore_in, database_in, buffer_in}
 use Rattle.ec_heading.specs.Groups.{both_of}
-use Rattle.calls_text.specs.Objects.{semaphore_pair, as_semaphore, as_database, object_in}
+use Rattle.calls_text.specs.Objects.{semaphore_pair, as_semaphore, as_database, as_buffer}
+use Rattle.calls_text.specs.Objects.{object_in}
 use Rattle.calls_text.specs.kept.Runs.{Fits, IsPlaced}
 use Rattle.calls_text.proofs.CellWords.{and_then_back as bound}
 
@@ -54,6 +57,16 @@ as_data h i (groups.Semaphore s) p at is = cc
 as_data h i (groups.Both s) p at is = cc
 as_data h i (groups.Buffer b) p at is = cc
 
+as_queue : (h : HeadingModel) (i : ℕ) (g : Group) (p : ℕ × buffers.Buffer)
+    → slice_get h.groups i ≡ Some g → placed_buffer (i, g) ≡ Some p
+    → slice_get h.groups p.0 ≡ Some (groups.Buffer p.1)
+as_queue h i (groups.Buffer b) p at is =
+    let e : (let q : ℕ × buffers.Buffer = (i, b) in q) ≡ p = cc in
+    subst (λ (q : ℕ × buffers.Buffer). slice_get h.groups q.0 ≡ Some (groups.Buffer q.1)) e at
+as_queue h i (groups.Database d) p at is = cc
+as_queue h i (groups.Semaphore s) p at is = cc
+as_queue h i (groups.Both s) p at is = cc
+
 semaphore_found : (h : HeadingModel) (w : List ℕ) (p : ℕ × Semaphore) → semaphore_in h w ≡ Some p
     → slice_get h.groups p.0 ≡ Some (groups.Semaphore p.1)
 semaphore_found h w p is =
@@ -65,6 +78,12 @@ database_found : (h : HeadingModel) (w : List ℕ) (p : ℕ × databases.Databas
 database_found h w p is =
     let b = bound placed_database (group_in h w) p is in
     as_data h b.0.0 b.0.1 p (group_found h w b.0 b.1) b.2
+
+buffer_found : (h : HeadingModel) (w : List ℕ) (p : ℕ × buffers.Buffer)
+    → buffer_in h w ≡ Some p → slice_get h.groups p.0 ≡ Some (groups.Buffer p.1)
+buffer_found h w p is =
+    let b = bound placed_buffer (group_in h w) p is in
+    as_queue h b.0.0 b.0.1 p (group_found h w b.0 b.1) b.2
 
 -- OBJECTS
 
@@ -117,12 +136,23 @@ object_fits h verbs.Write w other o is =
 object_fits h verbs.Snapshot w other o is =
     let m = mapped as_database (database_in h w) o is in
     subst (Fits h verbs.Snapshot) m.2 (database_found h w m.0 m.1)
+object_fits h verbs.Produce w other o is =
+    let m = mapped as_buffer (buffer_in h w) o is in
+    subst (Fits h verbs.Produce) m.2 (buffer_found h w m.0 m.1)
+object_fits h verbs.Consume w other o is =
+    let m = mapped as_buffer (buffer_in h w) o is in
+    subst (Fits h verbs.Consume) m.2 (buffer_found h w m.0 m.1)
 
--- a database is among the groups
+-- a database or a buffer is among the groups
 pub fits_placed : (h : HeadingModel) (v : OpWord) (o : Object) → Fits h v o → IsPlaced h o
 fits_placed h verbs.Write (objects.Database i d) fits =
     slice_get_within h.groups i (groups.Database d) fits
 fits_placed h verbs.Snapshot (objects.Database i d) fits =
     slice_get_within h.groups i (groups.Database d) fits
 fits_placed h v (objects.Database i d) fits = absurd fits
+fits_placed h verbs.Produce (objects.Buffer i b) fits =
+    slice_get_within h.groups i (groups.Buffer b) fits
+fits_placed h verbs.Consume (objects.Buffer i b) fits =
+    slice_get_within h.groups i (groups.Buffer b) fits
+fits_placed h v (objects.Buffer i b) fits = absurd fits
 fits_placed h v o fits = tt

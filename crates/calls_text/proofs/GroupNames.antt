@@ -1,4 +1,4 @@
--- Each semaphore and each database of a header has a name, and no word is empty.
+-- Each semaphore, database and buffer of a header has a name, and no word is empty.
 use Rattle.std.proofs.Common.{◌≡◌, ◌⊎◌, inl, inr, ℕ, zero, suc, ◌+◌, ◌<◌, ◌≤◌, List, [], ◌∷◌, ◌++◌}
 use Rattle.std.proofs.Common.{length, Bool, true, false, cond, eqb, if◌then◌else◌, Option, Some}
 use Rattle.std.proofs.Common.{None, refl, sym, ap, ◌∙◌, subst, arith, bytes_eq, codes, ne_eqb}
@@ -273,7 +273,7 @@ well_named h has =
     (sound (record o { declarations = [] }) (workers_alone has.outline has.is)) has.is.declarations
     (opened_well has.outline has.is))
 
--- the word of a semaphore or a database names it
+-- the word of a semaphore, a database or a buffer names it
 pub group_found : (h : HeadingModel) (i : ℕ) (g : Group) → HasHeaderTree h
     → slice_get h.groups i ≡ Some g
     → is_named g ≡ true → find_name (group_word h i) h.names ≡ Some (target.Group i)

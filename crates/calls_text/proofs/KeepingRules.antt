@@ -28,9 +28,10 @@ use Rattle.calls_text.specs.declared.object.Object.{Object}
 use Rattle.calls_text.specs.declared.object.Object.TheVariants as objects
 use Rattle.calls_text.specs.Verbs.{tail_of, is_update}
 use Rattle.calls_text.specs.Forms.{only_in}
-use Rattle.calls_text.specs.Objects.{object_in, as_semaphore, as_database, semaphore_pair}
+use Rattle.calls_text.specs.Objects.{object_in, as_semaphore, as_database, as_buffer}
+use Rattle.calls_text.specs.Objects.{semaphore_pair}
 use Rattle.ec_heading.specs.Groups.{both_of}
-use Rattle.calls_text.specs.Objects.{semaphore_in, database_in, is_owned, has_right}
+use Rattle.calls_text.specs.Objects.{semaphore_in, database_in, buffer_in, is_owned, has_right}
 use Rattle.calls_text.specs.Lists.{list_number, lists_after}
 use Rattle.calls_text.specs.Recordings.{RecordingModel}
 use Rattle.calls_text.specs.Reading.{is_no_number, number_or_0, only_number, numbers_in}
@@ -41,7 +42,7 @@ use Rattle.calls_text.specs.Rules.{AreSmall, only, IsDeclaredIn, TakesNumbers, M
 use Rattle.calls_text.specs.Rules.{SuitsCall, KeepsLimit, MayReturn, after_return}
 use Rattle.calls_text.proofs.CellWords.{and_then_back}
 use Rattle.calls_text.proofs.ObjectWords.{worker_below, event_below, sequencer_below, cell_below}
-use Rattle.calls_text.proofs.ObjectWords.{semaphore_named, database_named}
+use Rattle.calls_text.proofs.ObjectWords.{semaphore_named, database_named, buffer_named}
 use Rattle.calls_text.proofs.Fitting.{mapped as map_back}
 use Rattle.calls_text.proofs.PhraseWords.{SaysAnswer}
 use Rattle.calls_text.proofs.CallLines.{numbers_length, not_back}
@@ -77,6 +78,7 @@ only_small (w ∷ v ∷ ws) some = omega arith
 abbrev pub called_numbers : OpWord → List (List ℕ) → List ℕ
 called_numbers verbs.Await ws = only_number ws ∷ []
 called_numbers verbs.Put ws = only_number ws ∷ []
+called_numbers verbs.Produce ws = only_number ws ∷ []
 called_numbers verbs.Write ws = numbers_in ws
 called_numbers v ws = []
 
@@ -93,11 +95,14 @@ call_same r w verbs.V o ws = refl
 call_same r w verbs.PBoth o ws = refl
 call_same r w verbs.Write o ws = refl
 call_same r w verbs.Snapshot o ws = refl
+call_same r w verbs.Produce o ws = refl
+call_same r w verbs.Consume o ws = refl
 
 call_small : (v : OpWord) (ws : List (List ℕ)) (o : Object) → is_bad_tail (tail_of v) ws o ≡ false
     → AreSmall (called_numbers v ws)
 call_small verbs.Await ws o good = (only_small ws good, tt)
 call_small verbs.Put ws o good = (only_small ws good, tt)
+call_small verbs.Produce ws o good = (only_small ws good, tt)
 call_small verbs.Write ws o good = words_small ws (or_parts (list_any is_no_number ws) _ good).0
 call_small _ ws o good = tt
 
@@ -166,6 +171,12 @@ object_kept h verbs.Write o ws obj has is good =
 object_kept h verbs.Snapshot o ws obj has is good =
     let m = map_back as_database (database_in h o) obj is in
     subst (IsKept h verbs.Snapshot ws) m.2 ((database_named h o m.0 has m.1).there, refl)
+object_kept h verbs.Produce o ws obj has is good =
+    let m = map_back as_buffer (buffer_in h o) obj is in
+    subst (IsKept h verbs.Produce ws) m.2 ((buffer_named h o m.0 has m.1).there, refl)
+object_kept h verbs.Consume o ws obj has is good =
+    let m = map_back as_buffer (buffer_in h o) obj is in
+    subst (IsKept h verbs.Consume ws) m.2 ((buffer_named h o m.0 has m.1).there, refl)
 
 -- tests that all passed
 six_passed : (a b c d e f : Bool) (t u v w x y : FaultKind)

@@ -90,6 +90,7 @@ spent_agrees events run w verbs.Advance (objects.Cell x) is right = refl
 spent_agrees events run w verbs.Advance (objects.Semaphore i s) is right = refl
 spent_agrees events run w verbs.Advance (objects.Pair i s j t u) is right = refl
 spent_agrees events run w verbs.Advance (objects.Database i d) is right = refl
+spent_agrees events run w verbs.Advance (objects.Buffer i b) is right = refl
 spent_agrees events run w verbs.Read o is right = refl
 spent_agrees events run w verbs.Await o is right = refl
 spent_agrees events run w verbs.Ticket o is right = refl
@@ -100,6 +101,8 @@ spent_agrees events run w verbs.V o is right = refl
 spent_agrees events run w verbs.PBoth o is right = refl
 spent_agrees events run w verbs.Write o is right = refl
 spent_agrees events run w verbs.Snapshot o is right = refl
+spent_agrees events run w verbs.Produce o is right = refl
+spent_agrees events run w verbs.Consume o is right = refl
 
 -- a worker that lacks the right gets `NoRight`, whether it may call more or not
 by_right : (a b c d busy s t : Bool) → (d ≡ true → s ≡ t) → first_that (

@@ -7,6 +7,7 @@ use Rattle.std.proofs.lemmas.Bool.{ltb-true, lt-ltb, leb-true}
 use Rattle.ec_count.specs.Names.{find_name}
 use Rattle.ec_count.specs.declared.target.Target.{Target}
 use Rattle.ec_count.specs.declared.target.Target.TheVariants as target
+use Rattle.ec_buffer.specs.Shapes as buffers
 use Rattle.ec_database.specs.Shapes as databases
 use Rattle.ec_semaphore.specs.Shapes.{Semaphore}
 use Rattle.ec_heading.specs.declared.group.Group.{Group}
@@ -20,7 +21,8 @@ use Rattle.ec_heading.proofs.shared.AddedObjects.{is_below}
 use Rattle.ec_heading.proofs.shared.ReadHeadings.{IsSound, sound}
 use Rattle.ec_heading.proofs.shared.ReadNames.{found_all, word_back}
 use Rattle.calls_text.specs.Objects.{group_place, group_at, group_in, placed_semaphore}
-use Rattle.calls_text.specs.Objects.{placed_database, semaphore_in, database_in}
+use Rattle.calls_text.specs.Objects.{placed_database, placed_buffer}
+use Rattle.calls_text.specs.Objects.{semaphore_in, database_in, buffer_in}
 use Rattle.calls_text.specs.Spelling.{worker_word, event_word, sequencer_word, cell_name}
 use Rattle.calls_text.specs.Spelling.{group_word}
 use Rattle.calls_text.proofs.Groups.{group_back}
@@ -187,3 +189,23 @@ pub database_named : (h : HeadingModel) (w : List ℕ) (p : ℕ × databases.Dat
 database_named h w p has is =
     let b = and_then_back placed_database (group_in h w) p is in
     one_database h w b.0.0 b.0.1 p (group_named h w b.0 has b.1) b.2
+
+-- the word names the buffer at this index
+pub record IsBufferAt (h : HeadingModel) (w : List ℕ) (p : ℕ × buffers.Buffer) : Type 0 where
+  pub there : slice_get h.groups p.0 ≡ Some (groups.Buffer p.1)
+  pub word : group_word h p.0 ≡ w
+
+one_buffer : (h : HeadingModel) (w : List ℕ) (i : ℕ) (g : Group) (p : ℕ × buffers.Buffer)
+    → IsGroup h w (i, g) → placed_buffer (i, g) ≡ Some p → IsBufferAt h w p
+one_buffer h w i (groups.Buffer b) p at is =
+    let e : (let q : ℕ × buffers.Buffer = (i, b) in q) ≡ p = cc in
+    subst (IsBufferAt h w) e (record { there = at.there; word = at.word })
+one_buffer h w i (groups.Database d) p at is = cc
+one_buffer h w i (groups.Semaphore s) p at is = cc
+one_buffer h w i (groups.Both s) p at is = cc
+
+pub buffer_named : (h : HeadingModel) (w : List ℕ) (p : ℕ × buffers.Buffer) → HasHeaderTree h
+    → buffer_in h w ≡ Some p → IsBufferAt h w p
+buffer_named h w p has is =
+    let b = and_then_back placed_buffer (group_in h w) p is in
+    one_buffer h w b.0.0 b.0.1 p (group_named h w b.0 has b.1) b.2

@@ -42,7 +42,8 @@ object_verb_back w m =
 group_verb_back : (w : List ℕ) (m : OpWord) → group_verb_of w ≡ Some m → w ≡ verb_word m
 group_verb_back w m =
     pick w verbs.P m _ (pick w verbs.V m _ (pick w verbs.PBoth m _
-    (pick w verbs.Write m _ (pick w verbs.Snapshot m _ (no_verb w m)))))
+    (pick w verbs.Write m _ (pick w verbs.Snapshot m _ (pick w verbs.Produce m _
+    (pick w verbs.Consume m _ (no_verb w m)))))))
 
 either_verb : (w : List ℕ) (m : OpWord) (a b : Option OpWord) → (a ≡ Some m → w ≡ verb_word m)
     → (b ≡ Some m → w ≡ verb_word m) → or_else a b ≡ Some m → w ≡ verb_word m

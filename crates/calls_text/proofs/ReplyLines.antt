@@ -81,6 +81,8 @@ given h o (ops.P i) lists more ws suits = cc
 given h o (ops.V i) lists more ws suits = cc
 given h o (ops.PBoth i j) lists more ws suits = cc
 given h o (ops.Put v) lists more ws suits = cc
+given h o (ops.Produce v) lists more ws suits = cc
+given h o ops.Consume lists more ws suits = sym (one_number ws suits)
 
 -- REPLIES
 

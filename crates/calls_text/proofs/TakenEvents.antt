@@ -29,7 +29,7 @@ use Rattle.calls_text.specs.declared.object.Object.TheVariants as objects
 use Rattle.calls_text.specs.Verbs.{verb_word, parse_op_word, tail_of}
 use Rattle.calls_text.specs.Forms.{Phrase, Calls, Returns, phrase_in, is_tail, parse_reply_word}
 use Rattle.calls_text.specs.Forms.{is_word}
-use Rattle.calls_text.specs.Objects.{object_in, as_semaphore, as_database}
+use Rattle.calls_text.specs.Objects.{object_in, as_semaphore, as_database, as_buffer}
 use Rattle.calls_text.specs.Lists.{list_number, lists_after}
 use Rattle.calls_text.specs.Recordings.{RecordingModel, numbers_of, first_group, cells_of}
 use Rattle.calls_text.specs.Reading.{is_no_number, number_or_0, only_number, numbers_in}
@@ -45,7 +45,7 @@ use Rattle.calls_text.proofs.FineWords.{IsFine, literal_fine, number_fine, numbe
 use Rattle.calls_text.proofs.FineWords.{numbers_short, IsLineOf, fine_line}
 use Rattle.calls_text.proofs.GroupNames.{database_fits, few_cells}
 use Rattle.calls_text.proofs.Finding.{worker_found, event_found, sequencer_found, cell_found}
-use Rattle.calls_text.proofs.Finding.{semaphore_found, database_found}
+use Rattle.calls_text.proofs.Finding.{semaphore_found, database_found, buffer_found}
 
 -- NUMBERS
 
@@ -211,6 +211,17 @@ names r verbs.Snapshot (objects.Database i d) ns has there takes small =
     let f = database_found r.heading i d has there in
     alone r verbs.Snapshot (objects.Database i d) ns (group_word r.heading i) f.1
     (ap (option_map as_database) f.0) refl refl (λ i. refl)
+names r verbs.Produce (objects.Buffer place b) ns has there takes small =
+    let f = buffer_found r.heading place b has there in
+    one_number r verbs.Produce (objects.Buffer place b) ns (group_word r.heading place) f.1 takes
+    small (ap (option_map as_buffer) f.0) number_form number_good
+    (λ n low i. ap (λ (k : ℕ). with_event r i
+    (Invoke (index_of r.heading (objects.Buffer place b)) (ops.Produce k)) r.lists)
+    (number_back n low))
+names r verbs.Consume (objects.Buffer i b) ns has there takes small =
+    let f = buffer_found r.heading i b has there in
+    alone r verbs.Consume (objects.Buffer i b) ns (group_word r.heading i) f.1
+    (ap (option_map as_buffer) f.0) refl refl (λ i. refl)
 names r v o ns has there takes small = absurd takes
 
 -- an accepted line
@@ -232,6 +243,8 @@ verb_back verbs.V = refl
 verb_back verbs.PBoth = refl
 verb_back verbs.Write = refl
 verb_back verbs.Snapshot = refl
+verb_back verbs.Produce = refl
+verb_back verbs.Consume = refl
 
 verb_fine : (v : OpWord) → IsFine (verb_word v)
 verb_fine verbs.Advance = literal_fine (codes "advance") refl refl refl refl
@@ -245,6 +258,8 @@ verb_fine verbs.V = literal_fine (codes "v") refl refl refl refl
 verb_fine verbs.PBoth = literal_fine (codes "pboth") refl refl refl refl
 verb_fine verbs.Write = literal_fine (codes "write") refl refl refl refl
 verb_fine verbs.Snapshot = literal_fine (codes "snapshot") refl refl refl refl
+verb_fine verbs.Produce = literal_fine (codes "produce") refl refl refl refl
+verb_fine verbs.Consume = literal_fine (codes "consume") refl refl refl refl
 
 call_read : (w o : List ℕ) (v : OpWord) (ws : List (List ℕ)) → is_tail (tail_of v) ws ≡ true
     → phrase_in (w ∷ codes "calls" ∷ verb_word v ∷ o ∷ ws) ≡ Some (Calls w v o ws)
@@ -397,6 +412,8 @@ one_given h c (ops.P i) n takes list = cc
 one_given h c (ops.V i) n takes list = cc
 one_given h c (ops.PBoth i j) n takes list = cc
 one_given h c (ops.Put v) n takes list = cc
+one_given h c (ops.Produce v) n takes list = cc
+one_given h c ops.Consume n takes list = eqb-true _ _ takes
 
 few_of : (h : HeadingModel) (k : ℕ) → HasHeaderTree h → numbers_of h k ≤ 256
 few_of h k has =
@@ -418,6 +435,8 @@ few_given h c (ops.P i) n has takes = cc
 few_given h c (ops.V i) n has takes = cc
 few_given h c (ops.PBoth i j) n has takes = cc
 few_given h c (ops.Put v) n has takes = cc
+few_given h c (ops.Produce v) n has takes = cc
+few_given h c ops.Consume n has takes = omega (arith, eqb-true n 1 takes)
 
 -- THE LIMIT
 
@@ -437,6 +456,8 @@ not_over limit h c (ops.V i) ns small takes keeps = refl
 not_over limit h c (ops.PBoth i j) ns small takes keeps = refl
 not_over limit h c (ops.Put v) ns small takes keeps = refl
 not_over limit h c ops.Get ns small takes keeps = refl
+not_over limit h c (ops.Produce v) ns small takes keeps = refl
+not_over limit h c ops.Consume ns small takes keeps = refl
 
 never_over : (limit : ℕ) (op : Op) (ws : List (List ℕ))
     → (is_over limit op answers.Done ws ≡ false) × (is_over limit op answers.Timeout ws ≡ false)
@@ -449,6 +470,8 @@ never_over limit (ops.V i) ws = (refl, refl)
 never_over limit (ops.PBoth i j) ws = (refl, refl)
 never_over limit (ops.Put v) ws = (refl, refl)
 never_over limit ops.Get ws = (refl, refl)
+never_over limit (ops.Produce v) ws = (refl, refl)
+never_over limit ops.Consume ws = (refl, refl)
 
 -- THE REPLIES, ONE BY ONE
 

@@ -115,6 +115,7 @@ index_of h (objects.Cell x) = first_cell h + x
 index_of h (objects.Semaphore i s) = semaphores h
 index_of h (objects.Pair i one j other common) = semaphores h
 index_of h (objects.Database i d) = first_group h + i
+index_of h (objects.Buffer i b) = first_group h + i
 
 -- the index of a semaphore among the groups, and that of the second one of a pair
 abbrev pub place_in : Object → ℕ
@@ -139,6 +140,8 @@ op_of_word verbs.V o n = ops.V (place_in o)
 op_of_word verbs.PBoth o n = ops.PBoth (place_in o) (second_place_in o)
 op_of_word verbs.Write o n = ops.Put n
 op_of_word verbs.Snapshot o n = ops.Get
+op_of_word verbs.Produce o n = ops.Produce n
+op_of_word verbs.Consume o n = ops.Consume
 
 -- the number in a call, or that of its list; and the lists after it
 abbrev pub number_in : List (List ℕ) → OpWord → List (List ℕ) → ℕ
@@ -193,12 +196,15 @@ abbrev pub takes_done : Op → Bool
 takes_done ops.Read = false
 takes_done ops.Ticket = false
 takes_done ops.Get = false
+takes_done ops.Consume = false
 takes_done _ = true
 
 abbrev pub takes_timeout : Op → Bool
 takes_timeout (ops.Await n) = true
 takes_timeout (ops.P i) = true
 takes_timeout (ops.PBoth i j) = true
+takes_timeout (ops.Produce v) = true
+takes_timeout ops.Consume = true
 takes_timeout _ = false
 
 abbrev pub takes_numbers : HeadingModel → PendingCall → Op → ℕ → Bool
@@ -206,6 +212,7 @@ takes_numbers h o ops.Read n = n == 1
 takes_numbers h o (ops.Await v) n = n == 1
 takes_numbers h o ops.Ticket n = n == 1
 takes_numbers h o ops.Get n = n == numbers_of h o.object
+takes_numbers h o ops.Consume n = n == 1
 takes_numbers h o _ n = false
 
 abbrev pub is_suited : HeadingModel → PendingCall → ReplyWord → List (List ℕ) → Bool

@@ -9,7 +9,7 @@ use Rattle.ec_heading.specs.declared.group.Group.{Group}
 use Rattle.ec_heading.specs.declared.group.Group.TheVariants as groups
 use Rattle.calls_core.specs.declared.history.Kind.{Kind}
 use Rattle.calls_core.specs.declared.history.Kind.TheVariants.{Eventcount, Sequencer, Semaphores}
-use Rattle.calls_core.specs.declared.history.Kind.TheVariants.{Cell, Database}
+use Rattle.calls_core.specs.declared.history.Kind.TheVariants.{Cell, Database, Buffer}
 use Rattle.calls_core.specs.declared.history.Event.{Event}
 use Rattle.calls_core.specs.Histories.{IsHistory, clock}
 
@@ -22,7 +22,7 @@ pub record RecordingModel : Type 0 where
   pub lists : List (List ℕ)
 
 -- THE OBJECTS: first the eventcounts, then the sequencers, the cells, the semaphores as one object,
--- and the groups. Of the groups only databases are called
+-- and the groups. Of the groups databases and buffers are called by their own indices
 
 abbrev pub first_sequencer : HeadingModel → ℕ
 first_sequencer h = length h.setup.events
@@ -51,6 +51,12 @@ abbrev pub cells_of : Group → ℕ
 cells_of (groups.Database d) = d.cells
 cells_of _ = 0
 
+-- the kind of the object that a group is: a buffer holds at most as many items as it has cells, and
+-- a semaphore, which is not called by this index, counts as a database without cells
+abbrev pub kind_of_group : Group → Kind
+kind_of_group (groups.Buffer b) = Buffer b.cells
+kind_of_group g = Database (cells_of g)
+
 -- count objects from index n on are of these kinds
 abbrev pub HasFrom : List Kind → ℕ → ℕ → (ℕ → Kind) → Type 0
 HasFrom kinds n count kind = (i : ℕ) → i < count → slice_get kinds (n + i) ≡ Some (kind i)
@@ -64,7 +70,7 @@ HasUnits kinds n gs =
 abbrev pub HasGroups : List Kind → ℕ → List Group → Type 0
 HasGroups kinds n gs =
     (i : ℕ) (g : Group) → slice_get gs i ≡ Some g
-    → slice_get kinds (n + i) ≡ Some (Database (cells_of g))
+    → slice_get kinds (n + i) ≡ Some (kind_of_group g)
 
 -- these are the kinds of the objects that are declared
 pub record AreKinds (h : HeadingModel) (from : List (ℕ × ℕ)) (kinds : List Kind) : Type 0 where
@@ -73,7 +79,7 @@ pub record AreKinds (h : HeadingModel) (from : List (ℕ × ℕ)) (kinds : List 
   pub sequencers : HasFrom kinds (first_sequencer h) (length h.setup.takers) (λ q. Sequencer)
   pub cells : HasFrom kinds (first_cell h) (length h.setup.cells) (λ x. Cell)
   pub units : HasUnits kinds (semaphores h) h.groups
-  pub databases : HasGroups kinds (first_group h) h.groups
+  pub by_group : HasGroups kinds (first_group h) h.groups
 
 -- how many numbers a get of the object with this index returns
 abbrev pub numbers_of : HeadingModel → ℕ → ℕ

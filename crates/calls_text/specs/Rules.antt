@@ -67,6 +67,7 @@ IsDeclaredIn h (objects.Pair i one j other common) =
     × (slice_get h.groups j ≡ Some (groups.Semaphore other))
     × (both_of h.groups ≡ Some common)
 IsDeclaredIn h (objects.Database i d) = slice_get h.groups i ≡ Some (groups.Database d)
+IsDeclaredIn h (objects.Buffer i b) = slice_get h.groups i ≡ Some (groups.Buffer b)
 
 -- the object is of the sort that the call needs, and the numbers are as many as the call takes
 abbrev pub TakesNumbers : OpWord → Object → List ℕ → Type 0
@@ -81,6 +82,8 @@ TakesNumbers verbs.V (objects.Semaphore i s) ns = ns ≡ []
 TakesNumbers verbs.PBoth (objects.Pair i one j other common) ns = ns ≡ []
 TakesNumbers verbs.Write (objects.Database i d) ns = length ns ≡ d.cells
 TakesNumbers verbs.Snapshot (objects.Database i d) ns = ns ≡ []
+TakesNumbers verbs.Produce (objects.Buffer i b) ns = length ns ≡ 1
+TakesNumbers verbs.Consume (objects.Buffer i b) ns = ns ≡ []
 TakesNumbers v o ns = ⊥
 
 -- the worker may make this call: it has the right and no pending call, and is below the limit

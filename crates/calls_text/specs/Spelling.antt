@@ -72,6 +72,9 @@ call_text h lists k (ops.PBoth i j) = codes "pboth " ++ group_word h i ++ 32 ∷
 call_text h lists k (ops.Put n) = put_word h k ++ store_word h k
     ++ numbers_after_spaces (numbers_of_value h lists k n)
 call_text h lists k ops.Get = get_word h k ++ store_word h k
+call_text h lists k (ops.Produce v) =
+    codes "produce " ++ group_word h (k - first_group h) ++ 32 ∷ decimal v
+call_text h lists k ops.Consume = codes "consume " ++ group_word h (k - first_group h)
 
 -- the numbers that a call of the object with this index returns
 abbrev pub returned_value : HeadingModel → List (List ℕ) → ℕ → Op → ℕ → List ℕ

@@ -19,6 +19,8 @@ verb_word verbs.V = codes "v"
 verb_word verbs.PBoth = codes "pboth"
 verb_word verbs.Write = codes "write"
 verb_word verbs.Snapshot = codes "snapshot"
+verb_word verbs.Produce = codes "produce"
+verb_word verbs.Consume = codes "consume"
 
 -- the operation on an object of no group that a word names
 abbrev pub object_verb_of : List ℕ → Option OpWord
@@ -37,7 +39,9 @@ group_verb_of w =
     else (if bytes_eq w (codes "v") then Some verbs.V
     else (if bytes_eq w (codes "pboth") then Some verbs.PBoth
     else (if bytes_eq w (codes "write") then Some verbs.Write
-    else (if bytes_eq w (codes "snapshot") then Some verbs.Snapshot else None))))
+    else (if bytes_eq w (codes "snapshot") then Some verbs.Snapshot
+    else (if bytes_eq w (codes "produce") then Some verbs.Produce
+    else (if bytes_eq w (codes "consume") then Some verbs.Consume else None))))))
 
 abbrev pub or_else : Option OpWord → Option OpWord → Option OpWord
 or_else None other = other
@@ -51,14 +55,16 @@ parse_op_word w = or_else (object_verb_of w) (group_verb_of w)
 abbrev pub tail_of : OpWord → Tail
 tail_of verbs.Await = tails.Digits
 tail_of verbs.Put = tails.Digits
+tail_of verbs.Produce = tails.Digits
 tail_of verbs.Write = tails.ManyDigits
 tail_of verbs.PBoth = tails.Word
 tail_of _ = tails.Nothing
 
--- whether it is an advance, a put or a write, which need another right than the other calls of
--- their object
+-- whether it is an advance, a put, a write or a produce, which need another right than the other
+-- calls of their object
 abbrev pub is_update : OpWord → Bool
 is_update verbs.Advance = true
 is_update verbs.Put = true
 is_update verbs.Write = true
+is_update verbs.Produce = true
 is_update _ = false

@@ -1,17 +1,19 @@
 //! Finds the object that the words of a call name, and says who may call it.
-ghost use Rattle.std.specs.Prelude.{◌≡◌, option_map};
+ghost use Rattle.std.specs.Prelude.{◌≡◌, option_map, if◌then◌else◌};
 ghost use Rattle.std.specs.Option.{option_and_then};
 ghost use Rattle.ec_heading.specs.Groups.{both_of};
-ghost use Rattle.calls_text.specs.Objects.{group_in, semaphore_in, database_in, semaphore_pair};
+ghost use Rattle.calls_text.specs.Objects.{group_in, semaphore_in, database_in, buffer_in};
+ghost use Rattle.calls_text.specs.Objects.{semaphore_pair};
 ghost use Rattle.calls_text.specs.Objects.{object_in, owns, is_owned, has_right};
 
 use crate::verb::OpWord;
+use ec_buffer::BufferShape;
 use ec_count::{CellId, EventId, SeqId, Setup, Target, WorkerId};
 use ec_database::DatabaseShape;
 use ec_heading::{Group, Heading, both_of};
 use ec_semaphore::SemaphoreShape;
 
-/// The object of a call. A semaphore or a database comes with its index among the groups.
+/// The object of a call. A semaphore, a database or a buffer comes with its index among the groups.
 #[derive(Clone, Copy)]
 pub(crate) enum Object {
     Event(EventId),
@@ -21,6 +23,7 @@ pub(crate) enum Object {
     /// The two semaphores of a `pboth`, and the semaphore `both`.
     Pair(usize, SemaphoreShape, usize, SemaphoreShape, SemaphoreShape),
     Database(usize, DatabaseShape),
+    Buffer(usize, BufferShape),
 }
 
 /// Returns the group of this name, with its index among the groups.
@@ -49,6 +52,15 @@ fn database_in(heading: &Heading, word: &[u8]) -> Option<(usize, DatabaseShape)>
 {
     let (place, group) = group_in(heading, word)?;
     let shape = group.database()?;
+    Some((place, shape))
+}
+
+/// Returns the buffer of this name, with its index among the groups.
+fn buffer_in(heading: &Heading, word: &[u8]) -> Option<(usize, BufferShape)>
+    ensures { result ≡ buffer_in heading.now word.now }
+{
+    let (place, group) = group_in(heading, word)?;
+    let shape = group.buffer()?;
     Some((place, shape))
 }
 
@@ -88,6 +100,10 @@ pub(crate) fn object_in(
             let (place, shape) = database_in(heading, word)?;
             Some(Object::Database(place, shape))
         }
+        OpWord::Produce | OpWord::Consume => {
+            let (place, shape) = buffer_in(heading, word)?;
+            Some(Object::Buffer(place, shape))
+        }
     }
 }
 
@@ -110,9 +126,20 @@ pub(crate) fn is_owned(groups: &[Group], object: &Object) -> bool
     groups.iter().any(|group| owns(object, group))
 }
 
+/// Returns the sequencer of the producers, or that of the consumers.
+fn sequencer_in(shape: &BufferShape, puts: bool) -> SeqId
+    ensures { result ≡ (if puts then shape.now.put_seq else shape.now.take_seq) }
+{
+    if puts {
+        shape.put_seq()
+    } else {
+        shape.take_seq()
+    }
+}
+
 /// Returns whether the declarations allow a worker such a call of the object.
 ///
-/// `giving` says whether the call is an advance, a put or a write.
+/// `update` says whether the call is an advance, a put, a write or a produce.
 pub(crate) fn has_right(setup: &Setup, worker: WorkerId, update: bool, object: &Object) -> bool
     ensures { result ≡ has_right setup.now worker update object.now }
 {
@@ -145,5 +172,6 @@ pub(crate) fn has_right(setup: &Setup, worker: WorkerId, update: bool, object: &
                 setup.may_observe(shape.start(), worker)
             }
         }
+        Object::Buffer(_, shape) => setup.may_take(sequencer_in(&shape, update), worker),
     }
 }

@@ -4,7 +4,7 @@ ghost use Rattle.std.specs.Prelude.{IfOk, OnOk, Some};
 ghost use Rattle.calls_core.specs.declared.history.Kind.TheVariants.{Eventcount, Sequencer, Cell};
 ghost use Rattle.calls_core.specs.declared.history.Kind.TheVariants.{Database, Semaphores};
 ghost use Rattle.calls_text.specs.Recordings.{AreKinds, IsRecording, HasFrom, HasUnits, HasGroups};
-ghost use Rattle.calls_text.specs.Recordings.{start_count, initial_of, cells_of};
+ghost use Rattle.calls_text.specs.Recordings.{start_count, initial_of, kind_of_group};
 ghost use Rattle.calls_text.specs.kept.Adding.{Grows};
 ghost use Rattle.calls_text.specs.kept.Runs.{IsNextOf};
 ghost use Rattle.calls_text.specs.Reading.{with_events, recorded_of};
@@ -130,13 +130,23 @@ fn add_semaphores(alloc: Global, kinds: &mut Vec<Kind>, groups: &[Group]) -> Res
     Ok(())
 }
 
-/// Adds the groups, each as a database; one that is none has 0 cells.
+/// Returns the kind of a group: a buffer, or a database, which has 0 cells if the group is none.
+fn kind_of_group(group: &Group) -> Kind
+    ensures { result ≡ kind_of_group group.now }
+{
+    match *group {
+        Group::Buffer(shape) => Kind::Buffer(shape.cells()),
+        _ => Kind::Database(cells_of(group)),
+    }
+}
+
+/// Adds the groups, each by its kind.
 fn add_groups(kinds: &mut Vec<Kind>, groups: &[Group]) -> Result<(), AllocError>
     ensures grows { OnOk result (Grows kinds.old.items kinds.new.items (length groups.now)) }
     ensures are { OnOk result (HasGroups kinds.new.items (length kinds.old.items) groups.now) }
 {
     for group in groups {
-        kinds.push(Kind::Database(cells_of(group)))?;
+        kinds.push(kind_of_group(group))?;
     }
     Ok(())
 }
@@ -206,7 +216,7 @@ impl Recording {
     /// Returns the kinds of the objects, by index.
     ///
     /// These are the eventcounts, the sequencers, the cells, the semaphores as one object, and the
-    /// groups. Of the groups only databases are called.
+    /// groups. Of the groups databases and buffers are called by their own indices.
     pub fn kinds(&self) -> &[Kind]
         ensures { IsRecording self.now result.now }
     {

@@ -163,7 +163,7 @@ fn index_of(recording: &Recording, object: &Object) -> usize
         Object::Sequencer(sequencer) => first_sequencer(heading) + sequencer.get(),
         Object::Cell(cell) => first_cell(heading) + cell.get(),
         Object::Semaphore(_, _) | Object::Pair(_, _, _, _, _) => first_group(heading) - 1,
-        Object::Database(place, _) => first_group(heading) + place,
+        Object::Database(place, _) | Object::Buffer(place, _) => first_group(heading) + place,
     }
 }
 
@@ -194,6 +194,8 @@ fn op_of_word(verb: OpWord, object: &Object, n: usize) -> Op
         OpWord::P => Op::P(i),
         OpWord::V => Op::V(i),
         OpWord::PBoth => Op::PBoth(i, j),
+        OpWord::Produce => Op::Produce(n),
+        OpWord::Consume => Op::Consume,
     }
 }
 
@@ -221,7 +223,7 @@ fn takes_numbers(heading: &Heading, call: &PendingCall, n: usize) -> bool
     ensures { result ≡ takes_numbers heading.now call.now call.now.op n }
 {
     match call.op {
-        Op::Read | Op::Await(_) | Op::Ticket => n == 1,
+        Op::Read | Op::Await(_) | Op::Ticket | Op::Consume => n == 1,
         Op::Get => n == numbers_of(heading, call.object),
         _ => false,
     }
@@ -232,8 +234,11 @@ fn is_suited(heading: &Heading, call: &PendingCall, answer: ReplyWord, list: &[u
     ensures { result ≡ is_suited heading.now call.now answer (words_of list.now) }
 {
     match answer {
-        ReplyWord::Done => !matches!(call.op, Op::Read | Op::Ticket | Op::Get),
-        ReplyWord::Timeout => matches!(call.op, Op::Await(_) | Op::P(_) | Op::PBoth(_, _)),
+        ReplyWord::Done => !matches!(call.op, Op::Read | Op::Ticket | Op::Get | Op::Consume),
+        ReplyWord::Timeout => matches!(
+            call.op,
+            Op::Await(_) | Op::P(_) | Op::PBoth(_, _) | Op::Produce(_) | Op::Consume
+        ),
         ReplyWord::Numbers => takes_numbers(heading, call, count_words(list)),
     }
 }

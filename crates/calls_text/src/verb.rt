@@ -17,6 +17,8 @@ pub(crate) enum OpWord {
     PBoth,
     Write,
     Snapshot,
+    Produce,
+    Consume,
 }
 
 /// The form of what follows the object of a call.
@@ -75,6 +77,12 @@ fn group_verb_of(word: &[u8]) -> Option<OpWord>
     if word == b"snapshot".as_slice() {
         return Some(OpWord::Snapshot);
     }
+    if word == b"produce".as_slice() {
+        return Some(OpWord::Produce);
+    }
+    if word == b"consume".as_slice() {
+        return Some(OpWord::Consume);
+    }
     None
 }
 
@@ -94,18 +102,21 @@ impl OpWord {
         ensures { result ≡ tail_of self }
     {
         match self {
-            OpWord::Await | OpWord::Put => Tail::Digits,
+            OpWord::Await | OpWord::Put | OpWord::Produce => Tail::Digits,
             OpWord::Write => Tail::ManyDigits,
             OpWord::PBoth => Tail::Word,
             _ => Tail::Nothing,
         }
     }
 
-    /// Returns whether it is an advance, a put or a write, which need another right than the other
-    /// calls of their object.
+    /// Returns whether it is an advance, a put, a write or a produce, which need another right than
+    /// the other calls of their object.
     pub(crate) fn is_update(self) -> bool
         ensures { result ≡ is_update self }
     {
-        matches!(self, OpWord::Advance | OpWord::Put | OpWord::Write)
+        matches!(
+            self,
+            OpWord::Advance | OpWord::Put | OpWord::Write | OpWord::Produce
+        )
     }
 }

@@ -9,7 +9,7 @@ use Rattle.std.specs.Prelude.{nat_le}
 use Rattle.calls_core.specs.declared.history.Kind.TheVariants.{Sequencer}
 use Rattle.calls_core.specs.declared.history.Op.{Op}
 use Rattle.calls_core.specs.declared.history.Op.TheVariants.{Ticket, Advance, Read, Await, P, V}
-use Rattle.calls_core.specs.declared.history.Op.TheVariants.{PBoth, Put, Get}
+use Rattle.calls_core.specs.declared.history.Op.TheVariants.{PBoth, Put, Get, Produce, Consume}
 use Rattle.calls_core.specs.declared.history.Reply.{Reply}
 use Rattle.calls_core.specs.declared.history.Reply.TheVariants.{Done, Number, Timeout}
 use Rattle.calls_core.specs.declared.history.PendingCall.{PendingCall}
@@ -41,6 +41,8 @@ ticket_taken (V i) h = absurd h
 ticket_taken (PBoth i j) h = absurd h
 ticket_taken (Put v) h = absurd h
 ticket_taken Get h = absurd h
+ticket_taken (Produce v) h = absurd h
+ticket_taken Consume h = absurd h
 
 number_suits : (r : Reply) → Suits Ticket r → r ≡ Number (ticket_number r)
 number_suits Done h = absurd h

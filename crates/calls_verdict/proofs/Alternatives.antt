@@ -20,6 +20,7 @@ use Rattle.calls_verdict.specs.Verdicts.{IsFaultyOn, AreDecided}
 use Rattle.calls_verdict.specs.Laws.{AFaultLeavesNoLinearization, EveryHistoryIsDecided}
 use Rattle.calls_verdict.specs.Laws.{WhatIsShownIsAFault, ARefusalIsFinal}
 use Rattle.calls_verdict.proofs.OfKinds.{shown, fault_leaves_no_order, every_kind_is_decided}
+use Rattle.calls_verdict.proofs.OfKinds.{decided_order}
 use Rattle.calls_verdict.proofs.Gathering.{kind_at, whole_from_parts}
 
 pub a_fault_leaves_no_linearization : AFaultLeavesNoLinearization
@@ -58,7 +59,7 @@ module _ (kinds : List Kind) (past : List Event) (h : IsHistory kinds past)
         | inl l ↦ inl l
         | inr other ↦ elim other [
           | inl w ↦ inr (n, record { kind = kind; is = is; faulty = w })
-          | inr w ↦ absurd (d n kind is w.0 w.1)
+          | inr w ↦ inl (decided_order kind (part n past) w.0 (d n kind is) w.1)
         ]
       ]
 

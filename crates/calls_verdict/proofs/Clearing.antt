@@ -3,20 +3,23 @@ use Rattle.std.proofs.Common.{◌≡◌, ℕ, ◌+◌, ◌<◌, ◌≤◌, ◌�
 use Rattle.std.proofs.Common.{ap, sym, ◌∙◌, arith, subst, reverse, drop, get_or}
 use Rattle.std.proofs.lemmas.Bool.{cases_lt}
 use Rattle.calls_core.specs.declared.history.Kind.{Kind}
+use Rattle.calls_core.specs.declared.history.Kind.TheVariants.{Eventcount, Sequencer, Semaphores}
+use Rattle.calls_core.specs.declared.history.Kind.TheVariants.{Cell, Database, Buffer}
 use Rattle.calls_core.specs.declared.history.Event.{Event}
 use Rattle.calls_core.specs.Histories.{clock, IsHistoryOf}
 use Rattle.calls_core.specs.Beginnings.{past_at, until}
-use Rattle.calls_core.specs.Outcomes.{HasOrderOf}
+use Rattle.calls_core.specs.Outcomes.{HasOrderOf, IsFirstFault}
 use Rattle.calls_core.proofs.Beginnings.{past_split, history_at, history_until, order_until}
 use Rattle.calls_core.proofs.Beginnings.{past_next}
-use Rattle.calls_cells.specs.declared.outcome.Undecided.{Undecided}
-use Rattle.calls_verdict.specs.Faults.{ShowsUndecided}
-use Rattle.calls_verdict.specs.Verdicts.{IsClear}
-use Rattle.calls_verdict.proofs.OfKinds.{it_stays_undecided}
+use Rattle.calls_verdict.specs.declared.verdict.Fault.{Fault}
+use Rattle.calls_verdict.specs.declared.verdict.Cause.{Cause}
+use Rattle.calls_verdict.specs.Faults.{Shows, ShowsUndecided}
+use Rattle.calls_verdict.specs.Verdicts.{IsRefusedAt, IsOrdered, IsClear}
+use Rattle.calls_verdict.proofs.OfKinds.{it_stays_undecided, nothing_decided}
 use Rattle.calls_verdict.proofs.Untils.{until_in, until_out, clock_until, clock_later, until_at}
 use Rattle.calls_verdict.proofs.Untils.{until_of}
 
-stays_undecided : (kind : Kind) (late past : List Event) (u : Undecided)
+stays_undecided : (kind : Kind) (late past : List Event) (u : Cause)
     → IsHistoryOf kind (late ++ past)
     → ShowsUndecided kind past u → ShowsUndecided kind (late ++ past) u
 stays_undecided kind [] past u h s = s
@@ -72,7 +75,7 @@ module _ (kind : Kind) (events : List Event) (i : ℕ) (d : Event)
           (clock_later kind more (e ∷ past_at i events) (subst (IsHistoryOf kind) is
           (history_until kind m (reverse events) h)))
 
-  pub clear_up_to : (u : Undecided) (m : ℕ) → ShowsUndecided kind (e ∷ past_at i events) u
+  pub clear_up_to : (u : Cause) (m : ℕ) → ShowsUndecided kind (e ∷ past_at i events) u
       → HasOrderOf kind (past_at i events) → IsClear kind (until m (reverse events))
   clear_up_to u m s l =
       elim (cases_until m) [
@@ -100,8 +103,60 @@ module _ (kind : Kind) (events : List Event) (i : ℕ) (d : Event)
             history,
       ))
 
-  pub whole_shows : (u : Undecided) → ShowsUndecided kind (e ∷ past_at i events) u
+  pub whole_shows : (u : Cause) → ShowsUndecided kind (e ∷ past_at i events) u
       → ShowsUndecided kind (reverse events) u
   whole_shows u s =
       subst (λ q. ShowsUndecided kind q u) (sym split)
       (stays_undecided kind (reverse (drop (i + 1) events)) (e ∷ past_at i events) u history s)
+
+-- WHAT IS REFUSED, OF EACH KIND
+
+-- what each refusal says
+pub record IsRefusal (kind : Kind) (events : List Event) (i : ℕ) (f : Fault) : Type 0 where
+  pub within : i < length events
+  pub shows : Shows kind (past_at (i + 1) events) f
+  pub ordered : IsOrdered kind (past_at i events)
+
+from_first : (kind : Kind) (events : List Event) (i : ℕ) (f : Fault)
+    → (HasOrderOf kind (past_at i events) → IsOrdered kind (past_at i events))
+    → IsFirstFault (λ past. Shows kind past f) kind events i → IsRefusal kind events i f
+from_first kind events i f h r = record {
+  within = r.within;
+  shows = r.shows;
+  ordered = h (r.before i (omega arith));
+}
+
+pub refusal_of : (kind : Kind) (events : List Event) (i : ℕ) (f : Fault)
+    → IsRefusedAt kind events i f → IsRefusal kind events i f
+refusal_of (Eventcount n) events i f r = from_first (Eventcount n) events i f (λ l. l) r
+refusal_of Sequencer events i f r = from_first Sequencer events i f (λ l. l) r
+refusal_of (Semaphores units) events i f r = from_first (Semaphores units) events i f (λ l. l) r
+refusal_of Cell events i f r = from_first Cell events i f (λ l. l) r
+refusal_of (Database n) events i f r = from_first (Database n) events i f (λ l. l) r
+refusal_of (Buffer n) events i f r = record { within = r.0; shows = r.1; ordered = tt }
+
+ordered_by : (kind : Kind) (past other : List Event)
+    → (HasOrderOf kind past → HasOrderOf kind other) → IsOrdered kind past → IsOrdered kind other
+ordered_by (Eventcount n) past other f h = f h
+ordered_by Sequencer past other f h = f h
+ordered_by (Semaphores units) past other f h = f h
+ordered_by Cell past other f h = f h
+ordered_by (Database n) past other f h = f h
+ordered_by (Buffer n) past other f h = tt
+
+pub ordered_clear : (kind : Kind) (past : List Event) → IsOrdered kind past → IsClear kind past
+ordered_clear (Eventcount n) past h = inl h
+ordered_clear Sequencer past h = inl h
+ordered_clear (Semaphores units) past h = inl h
+ordered_clear Cell past h = inl h
+ordered_clear (Database n) past h = inl h
+ordered_clear (Buffer n) past h = nothing_decided n past
+
+-- up to the position of the event at index i
+pub ordered_up_to : (kind : Kind) (events : List Event) (i : ℕ) (d : Event)
+    → IsHistoryOf kind (reverse events) → i < length events → (m : ℕ)
+    → m ≤ (get_or events i d).at → IsOrdered kind (past_at i events)
+    → IsOrdered kind (until m (reverse events))
+ordered_up_to kind events i d h lt m le l =
+    ordered_by kind (past_at i events) (until m (reverse events))
+    (order_up_to kind events i d h lt m le) l

@@ -21,9 +21,9 @@ use Rattle.calls_core.specs.Outcomes.{IsOrderOf, HasOrderOf}
 use Rattle.calls_core.proofs.Beginnings.{order_until, until_split, history_earlier, past_next}
 use Rattle.calls_core.proofs.Settling.{has_order_from}
 use Rattle.calls_local.proofs.Parts.{part_history_of, part_clock}
-use Rattle.calls_cells.specs.declared.outcome.Undecided as cause
 use Rattle.calls_verdict.specs.declared.verdict.Fault.{Fault}
 use Rattle.calls_verdict.specs.declared.verdict.Refusal.{Refusal}
+use Rattle.calls_verdict.specs.declared.verdict.Cause.{Cause}
 use Rattle.calls_verdict.specs.declared.verdict.Undecided.{Undecided}
 use Rattle.calls_verdict.specs.declared.verdict.Verdict.TheVariants.{Linearizable, Refused}
 use Rattle.calls_verdict.specs.declared.verdict.Verdict.TheVariants.{NotDecided}
@@ -31,12 +31,13 @@ use Rattle.calls_verdict.specs.declared.verdict.Decision.TheVariants as decision
 use Rattle.calls_verdict.specs.declared.findings.Findings.{Findings}
 use Rattle.calls_verdict.specs.Faults.{Shows, ShowsUndecided, IsDecided}
 use Rattle.calls_verdict.specs.Verdicts.{IsDecision, IsCleanBefore, IsOrderedBefore, IsVerdict}
-use Rattle.calls_verdict.specs.Verdicts.{IsClear, AreClear}
+use Rattle.calls_verdict.specs.Verdicts.{IsOrdered, IsClear, AreClear}
 use Rattle.calls_verdict.specs.kept.Findings.{limit, IsRefused, IsOpen, ArePlaced}
 use Rattle.calls_verdict.specs.kept.Findings.{AreFound, IsEarlier}
 use Rattle.calls_verdict.proofs.Untils.{part_until}
-use Rattle.calls_verdict.proofs.Clearing.{order_up_to, clear_up_to, until_event, event_early}
-use Rattle.calls_verdict.proofs.Clearing.{whole_shows}
+use Rattle.calls_verdict.proofs.OfKinds.{decided_order}
+use Rattle.calls_verdict.proofs.Clearing.{clear_up_to, until_event, event_early, whole_shows}
+use Rattle.calls_verdict.proofs.Clearing.{IsRefusal, refusal_of, ordered_clear, ordered_up_to}
 use Rattle.calls_verdict.proofs.Gathering.{placed_more, placed_whole, none_placed, whole_from_parts}
 
 pub none_here : {X : Type 0} (o : Option X) → ((x : X) → o ≡ Some x → ⊥) → o ≡ None
@@ -123,24 +124,28 @@ module _ (kinds : List Kind) (past : List Event) (h : IsHistory kinds past) wher
             (let same : limit (clock past) new.refusal ≡ kept.at =
             ap (limit (clock past)) refused in
             omega (arith, lower old.refusal least of_kind)) f.clear
-            (λ m le. inl (subst (λ q. HasOrderOf kind (until m q)) mine
-            (order_up_to kind own i d of_kind l.within m
+            (λ m le. subst (λ q. IsClear kind (until m q)) mine
+            (ordered_clear kind (until m (reverse own))
+            (ordered_up_to kind own i d of_kind r.within m
             (let same : limit (clock past) new.refusal ≡ kept.at =
             ap (limit (clock past)) refused in
-            omega (arith, no_later old.refusal least)) (l.before i (omega arith)))));
+            omega (arith, no_later old.refusal least)) r.ordered)));
         refused = subst (IsRefused kinds past) (sym refused)
             (shown old.refusal least f.refused of_kind);
         undecided = subst (IsOpen kinds past) (sym undecided) f.undecided;
         placed = λ a b. absurd (none-some kept (sym a ∙ refused));
       })
     where
+      r : IsRefusal kind own i fault
+      r = refusal_of kind own i fault l
+
       own_ordered : IsHistoryOf kind (reverse own)
           → IsOrderedBefore kinds past n (get_or own i d).at
       own_ordered of_kind other m e le =
           (let one : kind ≡ other = same_Some kind other (sym is ∙ e) in
-          subst (λ z. HasOrderOf z (part n (until m past))) one
-          (subst (HasOrderOf kind) (ap (until m) mine ∙ sym (part_until kinds n m past h))
-          (order_up_to kind own i d of_kind l.within m le (l.before i (omega arith)))))
+          subst (λ z. IsOrdered z (part n (until m past))) one
+          (subst (IsOrdered kind) (ap (until m) mine ∙ sym (part_until kinds n m past h))
+          (ordered_up_to kind own i d of_kind r.within m le r.ordered)))
 
       next_shows : IsHistoryOf kind (reverse own) → IsRefused kinds past
           (Some (refusal_at n (get_or own i d) fault))
@@ -149,9 +154,9 @@ module _ (kinds : List Kind) (past : List Event) (h : IsHistory kinds past) wher
           kind = kind;
           is = is;
           shows = subst (λ q. Shows kind q fault)
-              (past_next own i d l.within ∙ sym (until_event kind own i d of_kind l.within)
+              (past_next own i d r.within ∙ sym (until_event kind own i d of_kind r.within)
               ∙ ap (until ((get_or own i d).at + 1)) mine ∙ sym
-              (part_until kinds n ((get_or own i d).at + 1) past h)) l.shows;
+              (part_until kinds n ((get_or own i d).at + 1) past h)) r.shows;
         },
         own_ordered of_kind,
       )
@@ -159,10 +164,10 @@ module _ (kinds : List Kind) (past : List Event) (h : IsHistory kinds past) wher
       shown : (o : Option Refusal) → IsEarlier o (refusal_at n (get_or own i d) fault) kept
           → IsRefused kinds past o → IsHistoryOf kind (reverse own)
           → IsRefused kinds past (Some kept)
-      shown None e r of_kind = subst (λ z. IsRefused kinds past (Some z)) (sym e)
+      shown None e q of_kind = subst (λ z. IsRefused kinds past (Some z)) (sym e)
           (next_shows of_kind)
-      shown (Some o) (inl e) r of_kind = subst (λ z. IsRefused kinds past (Some z)) (sym e.0) r
-      shown (Some o) (inr e) r of_kind = subst (λ z. IsRefused kinds past (Some z)) (sym e.0)
+      shown (Some o) (inl e) q of_kind = subst (λ z. IsRefused kinds past (Some z)) (sym e.0) q
+      shown (Some o) (inr e) q of_kind = subst (λ z. IsRefused kinds past (Some z)) (sym e.0)
           (next_shows of_kind)
 
       no_later : (o : Option Refusal) → IsEarlier o (refusal_at n (get_or own i d) fault) kept
@@ -180,7 +185,7 @@ module _ (kinds : List Kind) (past : List Event) (h : IsHistory kinds past) wher
           (let same : kept.at ≡ (get_or own i d).at = ap (λ (z : Refusal). z.at) e in
           let le : clock (reverse own) ≤ clock past = subst (λ q. clock q ≤ clock past) (sym mine)
           (part_clock kinds n past h) in
-          omega (arith, event_early kind own i d of_kind l.within))
+          omega (arith, event_early kind own i d of_kind r.within))
       lower (Some o) (inl e) of_kind = (let same : kept.at ≡ o.at =
           ap (λ (z : Refusal). z.at) e.0 in omega arith)
       lower (Some o) (inr e) of_kind = (let same : kept.at ≡ (get_or own i d).at =
@@ -188,7 +193,7 @@ module _ (kinds : List Kind) (past : List Event) (h : IsHistory kinds past) wher
 
   -- an object that isn't decided
   pub found_open : (n : ℕ) (kind : Kind) (own : List Event) (i : ℕ) (d : Event)
-      (u : cause.Undecided) (old new : Findings) (kept : Undecided)
+      (u : Cause) (old new : Findings) (kept : Undecided)
       → slice_get kinds n ≡ Some kind → reverse own ≡ part n past
       → IsDecision kind own (clock past) (decision.Open i u)
       → new.refusal ≡ old.refusal → new.undecided ≡ Some kept
@@ -246,7 +251,7 @@ module _ (kinds : List Kind) (past : List Event) (h : IsHistory kinds past) wher
       ordered : (kind : Kind) (own : List Event) → IsDecided kind own → IsClear kind own
           → HasOrderOf kind own
       ordered kind own d (inl l) = l
-      ordered kind own d (inr w) = absurd (d w.0 w.1)
+      ordered kind own d (inr w) = decided_order kind own w.0 d w.1
 
   pub verdict_refused : (found : Findings) (r : Refusal) → found.refusal ≡ Some r
       → AreFound kinds past (length kinds) found

@@ -6,6 +6,7 @@ pub mod OfKinds
 pub mod Untils
 pub mod Clearing
 pub mod Gathering
+pub mod Halving
 pub mod Founding
 pub mod Turns
 pub mod Alternatives

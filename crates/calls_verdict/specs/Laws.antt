@@ -21,13 +21,13 @@ WhatIsShownIsAFault =
     → IsFaultyOn kinds past k
 
 -- a history whose objects are all decided has a linearization, or an object of it has a fault; and
--- not both, by the first theorem
+-- not both, by the first theorem. A buffer counts as decided only if its calls have a linearization
 abbrev pub EveryHistoryIsDecided : Type 0
 EveryHistoryIsDecided =
     (kinds : List Kind) (past : List Event) → IsHistory kinds past → AreDecided kinds past
     → IsLinearizable kinds past ⊎ ((k : ℕ) × IsFaultyOn kinds past k)
 
--- no prefix that contains the first faulty event is linearizable
+-- no prefix that contains the refused event is linearizable
 abbrev pub ARefusalIsFinal : Type 0
 ARefusalIsFinal =
     (kinds : List Kind) (past : List Event) (at k : ℕ) (f : Fault) (m : ℕ) → IsHistory kinds past

@@ -1,15 +1,16 @@
 -- What a verdict on a history says.
-use Rattle.std.specs.Prelude.{◌≡◌, ◌⊎◌, ℕ, ◌+◌, ◌≤◌, List, reverse, Some, slice_get}
+use Rattle.std.specs.Prelude.{◌≡◌, ◌⊎◌, ℕ, ◌+◌, ◌<◌, ◌≤◌, List, length, reverse, Some, slice_get}
 use Rattle.calls_core.specs.declared.history.Kind.{Kind}
+use Rattle.calls_core.specs.declared.history.Kind.TheVariants.{Buffer}
 use Rattle.calls_core.specs.declared.history.Event.{Event}
 use Rattle.calls_core.specs.declared.history.Call.{Call}
 use Rattle.calls_core.specs.Histories.{clock, pending_calls, completed_calls, part}
 use Rattle.calls_core.specs.Linearizations.{IsRun, start, IsAnsweredLinearization}
 use Rattle.calls_core.specs.Points.{IsPlacedOrder}
-use Rattle.calls_core.specs.Beginnings.{until}
+use Rattle.calls_core.specs.Beginnings.{past_at, until}
 use Rattle.calls_core.specs.Outcomes.{IsOrderOf, HasOrderOf, IsFirstFault}
-use Rattle.calls_cells.specs.declared.outcome.Undecided as cause
 use Rattle.calls_verdict.specs.declared.verdict.Fault.{Fault}
+use Rattle.calls_verdict.specs.declared.verdict.Cause.{Cause}
 use Rattle.calls_verdict.specs.declared.verdict.Undecided.{Undecided}
 use Rattle.calls_verdict.specs.declared.verdict.Verdict.{Verdict}
 use Rattle.calls_verdict.specs.declared.verdict.Verdict.TheVariants.{Linearizable, Refused}
@@ -18,11 +19,17 @@ use Rattle.calls_verdict.specs.declared.verdict.Decision.{Decision}
 use Rattle.calls_verdict.specs.declared.verdict.Decision.TheVariants as decision
 use Rattle.calls_verdict.specs.Faults.{Shows, ShowsUndecided, IsDecided, IsFaulty}
 
+-- the events up to that at index i show the fault. It is the first faulty one; but of a buffer an
+-- earlier one may be faulty
+abbrev pub IsRefusedAt : Kind → List Event → ℕ → Fault → Type 0
+IsRefusedAt (Buffer n) events i f =
+    (i < length events) × Shows (Buffer n) (past_at (i + 1) events) f
+IsRefusedAt kind events i f = IsFirstFault (λ past. Shows kind past f) kind events i
+
 -- what a decision on the calls of one object says
 abbrev pub IsDecision : Kind → List Event → ℕ → Decision → Type 0
 IsDecision kind events t (decision.Ordered cs) = IsOrderOf kind (reverse events) t cs
-IsDecision kind events t (decision.Refused i f) = IsFirstFault (λ past.
-    Shows kind past f) kind events i
+IsDecision kind events t (decision.Refused i f) = IsRefusedAt kind events i f
 IsDecision kind events t (decision.Open i u) = IsFirstFault (λ past.
     ShowsUndecided kind past u) kind events i
 
@@ -49,9 +56,9 @@ abbrev pub AreDecided : List Kind → List Event → Type 0
 AreDecided kinds past = (k : ℕ) (kind : Kind) → slice_get kinds k ≡ Some kind
     → IsDecided kind (part k past)
 
--- the calls have a linearization, or aren't decided
+-- the calls have a linearization, or aren't decided; of a buffer nothing is said
 abbrev pub IsClear : Kind → List Event → Type 0
-IsClear kind past = HasOrderOf kind past ⊎ ((u : cause.Undecided) × ShowsUndecided kind past u)
+IsClear kind past = HasOrderOf kind past ⊎ ((u : Cause) × ShowsUndecided kind past u)
 
 -- the calls of each object have a linearization, or aren't decided
 abbrev pub AreClear : List Kind → List Event → Type 0
@@ -65,20 +72,27 @@ IsCleanBefore kinds past n =
     × (AreDecided kinds (until m past)
     → (cs : List Call) × IsAnsweredLinearization kinds (until m past) cs)
 
--- each prefix of the events of object k before position n has a linearization
+-- the calls have a linearization; of a buffer nothing is said
+abbrev pub IsOrdered : Kind → List Event → Type 0
+IsOrdered (Buffer n) past = Unit {0}
+IsOrdered kind past = HasOrderOf kind past
+
+-- each prefix of the events of object k before position n has a linearization, if the object isn't
+-- a buffer
 abbrev pub IsOrderedBefore : List Kind → List Event → ℕ → ℕ → Type 0
 IsOrderedBefore kinds past k n = (kind : Kind) (m : ℕ) → slice_get kinds k ≡ Some kind → m ≤ n
-    → HasOrderOf kind (part k (until m past))
+    → IsOrdered kind (part k (until m past))
 
--- the event at this position is the first faulty one: with it, object k shows the fault; and before
--- it neither this object nor another does
+-- the event at this position is refused: with it, object k shows the fault; and before it neither
+-- this object nor another does, except for buffers, of which nothing is said
 pub record IsFirstRefusal (kinds : List Kind) (past : List Event) (at k : ℕ) (f : Fault) : Type 0
   where
     pub shows : HasFault kinds (until (at + 1) past) k f
     pub own : IsOrderedBefore kinds past k at
     pub before : IsCleanBefore kinds past at
 
--- no object is refused, and this one isn't decided
+-- this object isn't decided, and no object shows a fault, except for buffers, of which nothing is
+-- said
 pub record IsNotDecided (kinds : List Kind) (past : List Event) (u : Undecided) : Type 0 where
   pub shows : HasOpen kinds past u
   pub rest : IsCleanBefore kinds past (clock past)

@@ -39,6 +39,7 @@ fn is_taken(kinds: &[Kind], object: usize, op: Op) -> bool
             i < units.len() && j < units.len() && i != j
         }
         (Some(Kind::Cell | Kind::Database(_)), Op::Put(_) | Op::Get) => true,
+        (Some(Kind::Buffer(_)), Op::Produce(_) | Op::Consume) => true,
         _ => false,
     }
 }
@@ -51,6 +52,8 @@ fn suits(op: Op, reply: Reply) -> bool
         Op::Advance | Op::V(_) | Op::Put(_) => matches!(reply, Reply::Done),
         Op::Read | Op::Ticket | Op::Get => matches!(reply, Reply::Number(_)),
         Op::P(_) | Op::PBoth(_, _) => matches!(reply, Reply::Done | Reply::Timeout),
+        Op::Produce(_) => matches!(reply, Reply::Done | Reply::Timeout),
+        Op::Consume => matches!(reply, Reply::Number(_) | Reply::Timeout),
         Op::Await(_) => true,
     }
 }

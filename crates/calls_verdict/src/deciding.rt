@@ -27,8 +27,8 @@ pub fn has_room(events: &[Event]) -> bool
 
 /// Decides whether a history has a linearization.
 ///
-/// It returns one with its points, or the first faulty event, or a cell or database that isn't
-/// decided.
+/// It returns one with its points, or a faulty event (`Refusal`), or a cell, a database or a buffer
+/// that isn't decided.
 pub fn decide(alloc: Global, kinds: &[Kind], events: &[Event]) -> Result<Verdict, AllocError>
     requires history { IsHistory kinds.now (reverse events.now) }
     requires room { clock (reverse events.now) < 2 ^ 64 }

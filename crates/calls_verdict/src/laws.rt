@@ -13,7 +13,7 @@ pub fn what_is_shown_is_a_fault()
     ensures { WhatIsShownIsAFault }
 {}
 
-/// States that no prefix that contains the first faulty event has a linearization.
+/// States that no prefix that contains the refused event has a linearization.
 pub fn a_refusal_is_final()
     ensures { ARefusalIsFinal }
 {}

@@ -1,6 +1,7 @@
 //! Decides whether a history of the calls of many objects has a linearization.
 #![tactic(auto)]
 
+mod buffers;
 mod checking;
 mod deciding;
 mod findings;
@@ -17,4 +18,4 @@ pub use laws::{
     the_first_fault_is_one, what_is_shown_is_a_fault,
 };
 pub use splitting::{follow, split};
-pub use verdict::{Decision, Fault, Refusal, Undecided, Verdict};
+pub use verdict::{Cause, Decision, Fault, Refusal, Undecided, Verdict};

@@ -4,7 +4,8 @@ ghost use Rattle.calls_core.specs.declared.history.Kind.TheVariants.{Cell};
 ghost use Rattle.calls_core.specs.Histories.{IsHistoryOf, clock};
 ghost use Rattle.calls_verdict.specs.Verdicts.{IsDecision};
 
-use crate::verdict::{Decision, Fault};
+use crate::buffers::decide_buffer;
+use crate::verdict::{Cause, Decision, Fault};
 use calls_core::{Kind, Part};
 use std::alloc::{AllocError, Global};
 
@@ -17,7 +18,7 @@ fn decide_cell(alloc: Global, events: &Part<'_, '_>, end: usize) -> Result<Decis
     match calls_cells::decide(alloc, events, end)? {
         calls_cells::Outcome::Ordered(calls) => Ok(Decision::Ordered(calls)),
         calls_cells::Outcome::Refused(i, fault) => Ok(Decision::Refused(i, Fault::Value(fault))),
-        calls_cells::Outcome::Undecided(i, cause) => Ok(Decision::Open(i, cause)),
+        calls_cells::Outcome::Undecided(i, cause) => Ok(Decision::Open(i, Cause::Values(cause))),
     }
 }
 
@@ -53,5 +54,6 @@ pub fn decide_object(
         },
         Kind::Cell => decide_cell(alloc, events, end),
         Kind::Database(_) => decide_cell(alloc, events, end),
+        Kind::Buffer(room) => decide_buffer(alloc, *room, events, end),
     }
 }

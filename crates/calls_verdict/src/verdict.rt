@@ -12,9 +12,12 @@ pub enum Fault {
     Units(calls_semaphores::Fault),
     /// Of a cell or a database.
     Value(calls_cells::Fault),
+    /// Of a buffer.
+    Items(calls_buffers::Fault),
 }
 
-/// The first faulty event of a history.
+/// A faulty event of a history, the first one if no buffer is called. A fault of a buffer may be
+/// found late, or not at all.
 #[derive(Debug, Drop)]
 pub struct Refusal {
     /// The position of the event.
@@ -25,13 +28,23 @@ pub struct Refusal {
     pub fault: Fault,
 }
 
-/// A cell or a database whose calls aren't decided.
+/// Why it isn't decided whether the calls of an object have a linearization.
+#[derive(Clone, Copy, Debug, PartialEq, Eq)]
+pub enum Cause {
+    /// Of a cell or a database: these of its calls are the reason.
+    Values(calls_cells::Undecided),
+    /// Of a buffer: its events before this position have a linearization. With the event at this
+    /// position neither one nor a fault was found, which the contract does not say.
+    Unfound(usize),
+}
+
+/// An object whose calls aren't decided.
 #[derive(Clone, Copy, Debug, PartialEq, Eq)]
 pub struct Undecided {
     /// Its index.
     pub object: usize,
-    /// The calls that prevent a decision.
-    pub cause: calls_cells::Undecided,
+    /// Why it isn't decided.
+    pub cause: Cause,
 }
 
 /// Whether a history has a linearization.
@@ -42,8 +55,8 @@ pub enum Verdict {
     Linearizable(Vec<Placed>),
     /// It has none.
     Refused(Refusal),
-    /// It has one exactly if the calls of this cell or database have one, and those of the others
-    /// that aren't decided.
+    /// It has one exactly if the calls of this object have one, and those of the others that aren't
+    /// decided.
     NotDecided(Undecided),
 }
 
@@ -55,5 +68,5 @@ pub enum Decision {
     /// They have none, since the event at this index shows this fault.
     Refused(usize, Fault),
     /// They aren't decided from the event at this index on.
-    Open(usize, calls_cells::Undecided),
+    Open(usize, Cause),
 }

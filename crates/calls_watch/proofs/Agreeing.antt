@@ -6,7 +6,7 @@ use Rattle.ec_text.specs.Puts.{OutputModel}
 use Rattle.ec_heading.specs.HeadingModel.{HeadingModel}
 use Rattle.calls_core.specs.declared.history.Kind.{Kind}
 use Rattle.calls_core.specs.declared.history.Kind.TheVariants.{Eventcount, Sequencer, Semaphores}
-use Rattle.calls_core.specs.declared.history.Kind.TheVariants.{Cell, Database}
+use Rattle.calls_core.specs.declared.history.Kind.TheVariants.{Cell, Database, Buffer}
 use Rattle.calls_core.specs.declared.history.Event.{Event}
 use Rattle.calls_core.specs.declared.history.Placed.{Placed}
 use Rattle.calls_core.specs.Histories.{clock, part, IsHistory, IsHistoryOf}
@@ -20,10 +20,12 @@ use Rattle.calls_local.proofs.Parts.{a_part_is_a_history}
 use Rattle.calls_local.proofs.Wholes.{a_prefix_is_linearizable}
 use Rattle.calls_local.proofs.Responding.{answers_become_responses}
 use Rattle.calls_cells.specs.declared.outcome.Undecided as cells
+use Rattle.calls_cells.specs.Faults as undecided
+use Rattle.calls_verdict.specs.declared.verdict.Cause.{Cause}
+use Rattle.calls_verdict.specs.declared.verdict.Cause.TheVariants.{Values, Unfound}
 use Rattle.calls_verdict.specs.declared.verdict.Refusal.{Refusal}
 use Rattle.calls_verdict.specs.declared.verdict.Undecided.{Undecided}
-use Rattle.calls_verdict.specs.Faults.{ShowsUndecided}
-use Rattle.calls_cells.specs.Faults as undecided
+use Rattle.calls_verdict.specs.Faults.{ShowsUndecided, IsDecided}
 use Rattle.calls_verdict.specs.Verdicts.{AreDecided, IsNotDecided, IsFirstRefusal, IsCleanBefore}
 use Rattle.calls_verdict.proofs.Alternatives.{a_refusal_is_final}
 use Rattle.calls_verdict.proofs.OneFault.{until_past as until_end, ends_later, the_first_fault_is_one}
@@ -48,7 +50,7 @@ use Rattle.calls_report.proofs.JudgingLemmas.{goes_past}
 use Rattle.calls_watch.proofs.LineLemmas.{one_part}
 use Rattle.calls_watch.proofs.SameKinds.{all_alike, linearizable_alike, AllAlike}
 use Rattle.calls_watch.proofs.Uncalled.{part_watched, uncalled, cell_begins}
-use Rattle.calls_watch.proofs.Uncalled.{database_begins}
+use Rattle.calls_watch.proofs.Uncalled.{database_begins, buffer_begins, uncalled_order}
 
 -- HOW FAR BOTH HAVE READ
 
@@ -115,34 +117,62 @@ good_not_refused r g x refused =
     (subst (IsLinearizable refused.0) (sym (far x.at past))
     (linearizable_alike g.kinds refused.0 same past g.linearizable))
 
-nothing_undecided : (u : cells.Undecided) → undecided.ShowsUndecided [] u → ⊥
-nothing_undecided u shows =
+nothing_stored : (u : cells.Undecided) → undecided.ShowsUndecided [] u → ⊥
+nothing_stored u shows =
     let never : false ≡ true = shows.repeated.got in
     cc
 
-kind_decided : (kind : Kind) (past : List Event) (u : cells.Undecided) → IsHistoryOf kind past
+nothing_undecided : (kind : Kind) (u : Cause) → ShowsUndecided kind [] u → ⊥
+nothing_undecided (Eventcount n) u shows = shows
+nothing_undecided Sequencer u shows = shows
+nothing_undecided (Semaphores units) u shows = shows
+nothing_undecided Cell (Values u) shows = nothing_stored u shows
+nothing_undecided Cell (Unfound m) shows = shows
+nothing_undecided (Database n) (Values u) shows = nothing_stored u shows
+nothing_undecided (Database n) (Unfound m) shows = shows
+nothing_undecided (Buffer n) (Values u) shows = shows
+nothing_undecided (Buffer n) (Unfound m) shows =
+    let never : m < 0 = shows.within in
+    omega (arith, never)
+
+kind_decided : (kind : Kind) (past : List Event) (u : Cause) → IsHistoryOf kind past
     → AreWatched past → ShowsUndecided kind past u → ⊥
 kind_decided (Eventcount n) past u h w shows = shows
 kind_decided Sequencer past u h w shows = shows
 kind_decided (Semaphores units) past u h w shows = shows
 kind_decided Cell past u h w shows =
-    nothing_undecided u (subst (λ (es : List Event). undecided.ShowsUndecided es u)
+    nothing_undecided Cell u (subst (λ (es : List Event). ShowsUndecided Cell es u)
     (uncalled Cell cell_begins past h w) shows)
 kind_decided (Database n) past u h w shows =
-    nothing_undecided u (subst (λ (es : List Event). undecided.ShowsUndecided es u)
+    nothing_undecided (Database n) u (subst (λ (es : List Event). ShowsUndecided (Database n) es u)
     (uncalled (Database n) (database_begins n) past h w) shows)
+kind_decided (Buffer n) past u h w shows =
+    nothing_undecided (Buffer n) u (subst (λ (es : List Event). ShowsUndecided (Buffer n) es u)
+    (uncalled (Buffer n) (buffer_begins n) past h w) shows)
+
+is_decided : (kind : Kind) (past : List Event) → IsHistoryOf kind past → AreWatched past
+    → IsDecided kind past
+is_decided (Eventcount n) past h w = λ u shows. kind_decided (Eventcount n) past u h w shows
+is_decided Sequencer past h w = λ u shows. kind_decided Sequencer past u h w shows
+is_decided (Semaphores units) past h w = λ u shows.
+    kind_decided (Semaphores units) past u h w shows
+is_decided Cell past h w = λ u shows. kind_decided Cell past u h w shows
+is_decided (Database n) past h w = λ u shows. kind_decided (Database n) past u h w shows
+is_decided (Buffer n) past h w = uncalled_order (Buffer n) (buffer_begins n) past h w
 
 are_decided : (ks : List Kind) (past : List Event) → IsHistory ks past → AreWatched past
     → AreDecided ks past
-are_decided ks past h w = λ k kind is u shows.
-    kind_decided kind (part k past) u ((a_part_is_a_history ks k past h).4 kind is)
-    (part_watched k past w) shows
+are_decided ks past h w = λ k kind is.
+    is_decided kind (part k past) ((a_part_is_a_history ks k past h).4 kind is)
+    (part_watched k past w)
 
 good_not_open : (r : RecordingModel) → IsGood r → (u : Undecided) → IsUndecided r u → ⊥
 good_not_open r g u open_one =
     let shown = open_one.2.shows in
-    are_decided open_one.0 (reverse r.events) open_one.1.history g.watched u.object shown.kind
-    shown.is u.cause shown.shows
+    let past : List Event = reverse r.events in
+    kind_decided shown.kind (part u.object past) u.cause
+    ((a_part_is_a_history open_one.0 u.object past open_one.1.history).4 shown.kind shown.is)
+    (part_watched u.object past g.watched) shown.shows
 
 -- HISTORIES THAT ARE REJECTED
 

@@ -8,10 +8,10 @@ use Rattle.ec_heading.specs.HeadingModel.{HeadingModel}
 use Rattle.ec_heading.specs.declared.group.Group.{Group}
 use Rattle.calls_core.specs.declared.history.Kind.{Kind}
 use Rattle.calls_core.specs.declared.history.Kind.TheVariants.{Eventcount, Sequencer, Semaphores}
-use Rattle.calls_core.specs.declared.history.Kind.TheVariants.{Cell, Database}
+use Rattle.calls_core.specs.declared.history.Kind.TheVariants.{Cell, Database, Buffer}
 use Rattle.calls_core.specs.declared.history.Op.{Op}
 use Rattle.calls_core.specs.declared.history.Op.TheVariants.{Advance, Read, Await, Ticket, P, V}
-use Rattle.calls_core.specs.declared.history.Op.TheVariants.{PBoth, Put, Get}
+use Rattle.calls_core.specs.declared.history.Op.TheVariants.{PBoth, Put, Get, Produce, Consume}
 use Rattle.calls_core.specs.declared.history.Action.{Action}
 use Rattle.calls_core.specs.declared.history.Action.TheVariants.{Invoke, Respond}
 use Rattle.calls_core.specs.declared.history.Event.{Event}
@@ -20,7 +20,7 @@ use Rattle.calls_core.specs.Histories.{pending_of, pending_calls, Takes, IsNext,
 use Rattle.calls_core.specs.Linearizations.{initial, start, IsRun}
 use Rattle.calls_core.specs.Completions.{IsLinearizable}
 use Rattle.calls_text.specs.Recordings.{AreKinds, first_sequencer, first_cell, semaphores, first_group}
-use Rattle.calls_text.specs.Recordings.{start_count, cells_of}
+use Rattle.calls_text.specs.Recordings.{start_count, kind_of_group}
 
 -- WHAT OBJECTS ARE
 
@@ -31,6 +31,7 @@ AreAlike (Some Sequencer) (Some Sequencer) = Unit {0}
 AreAlike (Some (Semaphores u)) (Some (Semaphores v)) = u.items ≡ v.items
 AreAlike (Some Cell) (Some Cell) = Unit {0}
 AreAlike (Some (Database n)) (Some (Database m)) = n ≡ m
+AreAlike (Some (Buffer n)) (Some (Buffer m)) = n ≡ m
 AreAlike _ _ = ⊥
 
 alike_self : (o : Option Kind) → AreAlike o o
@@ -40,6 +41,7 @@ alike_self (Some Sequencer) = tt
 alike_self (Some (Semaphores u)) = refl
 alike_self (Some Cell) = tt
 alike_self (Some (Database n)) = refl
+alike_self (Some (Buffer n)) = refl
 
 alike_both : (a b : Option Kind) → a ≡ b → AreAlike a b
 alike_both a b same = subst (AreAlike a) same (alike_self a)
@@ -78,8 +80,8 @@ module _ (h : HeadingModel) (from : List (ℕ × ℕ)) (ks ls : List Kind) (one 
       → AreAlike (slice_get ks (first_group h + i)) (slice_get ls (first_group h + i))
   in_groups i lt =
       let g = something_there h.groups i lt in
-      at_place (first_group h) i (first_group h + i) (Database (cells_of g.0)) refl
-      (one.databases i g.0 g.1) (other.databases i g.0 g.1)
+      at_place (first_group h) i (first_group h + i) (kind_of_group g.0) refl
+      (one.by_group i g.0 g.1) (other.by_group i g.0 g.1)
 
   beyond : (k : ℕ) → first_group h + length h.groups ≤ k
       → AreAlike (slice_get ks k) (slice_get ls k)
@@ -149,6 +151,8 @@ units_take u v same (Await n) t = t
 units_take u v same Ticket t = t
 units_take u v same (Put n) t = t
 units_take u v same Get t = t
+units_take u v same (Produce n) t = t
+units_take u v same Consume t = t
 
 takes_alike : (a b : Option Kind) → AreAlike a b → (op : Op) → Takes a op → Takes b op
 takes_alike None None same op t = t
@@ -159,6 +163,8 @@ takes_alike (Some (Semaphores u)) (Some (Semaphores v)) same op t = units_take u
 takes_alike (Some Cell) (Some Cell) same op t = t
 takes_alike (Some (Database n)) (Some (Database m)) same op t =
     subst (λ (i : ℕ). Takes (Some (Database i)) op) same t
+takes_alike (Some (Buffer n)) (Some (Buffer m)) same op t =
+    subst (λ (i : ℕ). Takes (Some (Buffer i)) op) same t
 takes_alike _ _ same op t = absurd same
 
 initial_alike : (a b : Option Kind) → AreAlike a b → (i : ℕ) → initial a i ≡ initial b i
@@ -169,6 +175,8 @@ initial_alike (Some (Semaphores u)) (Some (Semaphores v)) same i =
     ap (λ (xs : List ℕ). slice_index xs i) same
 initial_alike (Some Cell) (Some Cell) same i = refl
 initial_alike (Some (Database n)) (Some (Database m)) same i = refl
+initial_alike (Some (Buffer n)) (Some (Buffer m)) same i =
+    ap (λ (n : ℕ). initial (Some (Buffer n)) i) same
 initial_alike _ _ same i = absurd same
 
 -- HISTORIES

@@ -1,11 +1,11 @@
--- Histories in which no cell and no database is called.
+-- Histories in which no cell, database or buffer is called.
 use Rattle.std.proofs.Common.{◌≡◌, ℕ, Bool, true, false, cond, List, [], ◌∷◌, None}
 use Rattle.std.proofs.Common.{refl, sym, subst}
 use Rattle.calls_core.specs.declared.history.Kind.{Kind}
 use Rattle.calls_core.specs.declared.history.Kind.TheVariants.{Eventcount, Sequencer, Semaphores}
-use Rattle.calls_core.specs.declared.history.Kind.TheVariants.{Cell, Database}
+use Rattle.calls_core.specs.declared.history.Kind.TheVariants.{Cell, Database, Buffer}
 use Rattle.calls_core.specs.declared.history.Op.TheVariants.{Advance, Read, Await, Ticket, P, V}
-use Rattle.calls_core.specs.declared.history.Op.TheVariants.{PBoth, Put, Get}
+use Rattle.calls_core.specs.declared.history.Op.TheVariants.{PBoth, Put, Get, Produce, Consume}
 use Rattle.calls_core.specs.declared.history.Action.{Action}
 use Rattle.calls_core.specs.declared.history.Action.TheVariants.{Invoke, Respond}
 use Rattle.calls_core.specs.declared.history.Event.{Event}
@@ -29,7 +29,7 @@ part_watched k (x ∷ past) w =
       | false ↦ part_watched k past w.1
     ]
 
--- the first event of the calls of such an object invokes a call of a cell or a database
+-- the first event of the calls of such an object invokes a call of a cell, a database or a buffer
 abbrev pub BeginsWithNone : Kind → Type 0
 BeginsWithNone kind = (a : Action) → IsNextOf kind a None → invokes_cells a ≡ false → ⊥
 
@@ -43,6 +43,8 @@ cell_begins (Invoke k (V i)) next none = next
 cell_begins (Invoke k (PBoth i j)) next none = next
 cell_begins (Invoke k (Put v)) next none = cc
 cell_begins (Invoke k Get) next none = cc
+cell_begins (Invoke k (Produce v)) next none = next
+cell_begins (Invoke k Consume) next none = next
 cell_begins (Respond r) next none = next
 
 pub database_begins : (n : ℕ) → BeginsWithNone (Database n)
@@ -55,7 +57,23 @@ database_begins n (Invoke k (V i)) next none = next
 database_begins n (Invoke k (PBoth i j)) next none = next
 database_begins n (Invoke k (Put v)) next none = cc
 database_begins n (Invoke k Get) next none = cc
+database_begins n (Invoke k (Produce v)) next none = next
+database_begins n (Invoke k Consume) next none = next
 database_begins n (Respond r) next none = next
+
+pub buffer_begins : (n : ℕ) → BeginsWithNone (Buffer n)
+buffer_begins n (Invoke k Advance) next none = next
+buffer_begins n (Invoke k Read) next none = next
+buffer_begins n (Invoke k (Await v)) next none = next
+buffer_begins n (Invoke k Ticket) next none = next
+buffer_begins n (Invoke k (P i)) next none = next
+buffer_begins n (Invoke k (V i)) next none = next
+buffer_begins n (Invoke k (PBoth i j)) next none = next
+buffer_begins n (Invoke k (Put v)) next none = next
+buffer_begins n (Invoke k Get) next none = next
+buffer_begins n (Invoke k (Produce v)) next none = cc
+buffer_begins n (Invoke k Consume) next none = cc
+buffer_begins n (Respond r) next none = next
 
 pub uncalled : (kind : Kind) → BeginsWithNone kind → (past : List Event) → IsHistoryOf kind past
     → AreWatched past → past ≡ []
@@ -66,8 +84,8 @@ uncalled kind begins (x ∷ past) h w =
     (subst (λ (p : List Event). IsNextOf kind x.action (pending_of x.worker (pending_calls p))) none
     h.1) w.0)
 
-uncalled_order : (kind : Kind) → BeginsWithNone kind → (past : List Event) → IsHistoryOf kind past
-    → AreWatched past → HasOrderOf kind past
+pub uncalled_order : (kind : Kind) → BeginsWithNone kind → (past : List Event)
+    → IsHistoryOf kind past → AreWatched past → HasOrderOf kind past
 uncalled_order kind begins past h w =
     subst (HasOrderOf kind) (sym (uncalled kind begins past h w)) (nothing_ordered kind)
 
@@ -78,6 +96,7 @@ order_of Sequencer past h w order = order tt
 order_of (Semaphores units) past h w order = order tt
 order_of Cell past h w order = uncalled_order Cell cell_begins past h w
 order_of (Database n) past h w order = uncalled_order (Database n) (database_begins n) past h w
+order_of (Buffer n) past h w order = uncalled_order (Buffer n) (buffer_begins n) past h w
 
 -- so if the calls of each watched object have a linearization, the history has one
 pub all_linearizable : (kinds : List Kind) (past : List Event) → IsHistory kinds past

@@ -5,7 +5,7 @@ use Rattle.std.specs.Io.KnownBytes.{Appends}
 use Rattle.ec_text.specs.Puts.{OutputModel, Puts, AppendsPrefix}
 use Rattle.calls_core.specs.declared.history.Kind.{Kind}
 use Rattle.calls_core.specs.declared.history.Op.{Op}
-use Rattle.calls_core.specs.declared.history.Op.TheVariants.{Put, Get}
+use Rattle.calls_core.specs.declared.history.Op.TheVariants.{Put, Get, Produce, Consume}
 use Rattle.calls_core.specs.declared.history.Action.{Action}
 use Rattle.calls_core.specs.declared.history.Action.TheVariants.{Invoke, Respond}
 use Rattle.calls_core.specs.declared.history.Event.{Event}
@@ -31,10 +31,12 @@ use Rattle.calls_watch.specs.Loads.{summary_of}
 
 -- CALLS OF CELLS
 
--- whether a call is one of a cell or a database
+-- whether a call is one of a cell, a database or a buffer
 abbrev pub is_of_cells : Op → Bool
 is_of_cells (Put v) = true
 is_of_cells Get = true
+is_of_cells (Produce v) = true
+is_of_cells Consume = true
 is_of_cells _ = false
 
 -- whether an event invokes such a call
@@ -49,7 +51,7 @@ AreWatched (x ∷ past) = (invokes_cells x.action ≡ false) × AreWatched past
 
 -- HISTORIES, ONE AFTER ANOTHER
 
--- these are the objects of the history, no cell and no database is called, and it has a
+-- these are the objects of the history, no cell, database or buffer is called, and it has a
 -- linearization
 pub record IsGood (r : RecordingModel) : Type 0 where
   pub kinds : List Kind
@@ -110,7 +112,7 @@ SaysStopped n ps old new =
     (m : ℕ) × (r : RecordingModel) × (x : Event) × (report : Report) × IsStopped n ps m r x report
     × Puts old new (refused_note m r x report)
 
--- the event invokes a call of a cell or a database
+-- the event invokes a call of a cell, a database or a buffer
 pub record IsUnwatched (n : ℕ) (ps : List (List ℕ)) (m : ℕ) : Type 0 where
   pub recorded : RecordingModel
   pub event : Event
@@ -123,7 +125,7 @@ pub record IsUnwatched (n : ℕ) (ps : List (List ℕ)) (m : ℕ) : Type 0 where
 abbrev pub unwatched_note : ℕ → List ℕ
 unwatched_note m =
     line_words (m - 1)
-    ++ codes "cells and databases are not watched: evc-calls check decides them\n"
+    ++ codes "cells, databases and buffers are not watched: evc-calls check decides them\n"
 
 abbrev pub SaysUnwatched : ℕ → List (List ℕ) → OutputModel → OutputModel → Type 0
 SaysUnwatched n ps old new =

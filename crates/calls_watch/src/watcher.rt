@@ -31,11 +31,16 @@ pub struct Watcher {
     pub(crate) load: Load,
 }
 
-/// Returns whether an event invokes a call of a cell or a database.
+/// Returns whether an event invokes a call of a cell, a database or a buffer.
 fn invokes_cells(action: Action) -> bool
     ensures { result ≡ invokes_cells action }
 {
-    matches!(action, Action::Invoke(_, Op::Put(_) | Op::Get))
+    match action {
+        Action::Invoke(_, op) => {
+            matches!(op, Op::Put(_) | Op::Get | Op::Produce(_) | Op::Consume)
+        }
+        Action::Respond(_) => false,
+    }
 }
 
 /// Judges an event by the monitor.

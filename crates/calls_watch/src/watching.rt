@@ -152,7 +152,7 @@ fn report_unwatched<N: Write>(number: u64, notes: &mut Output<'_, N>) -> Status
     notes.put(b"line ");
     notes.put_number(number.saturating_sub(1));
     notes.put(b": ");
-    notes.say(b"cells and databases are not watched: evc-calls check decides them\n");
+    notes.say(b"cells, databases and buffers are not watched: evc-calls check decides them\n");
     Status::NotDecided
 }
 
@@ -179,8 +179,8 @@ pub fn report_stop<N: Write>(watcher: &Watcher, stop: Stop, notes: &mut Output<'
 /// the end of the text it writes how many histories and calls there were. It also writes how many
 /// other calls are pending on average when one is invoked.
 ///
-/// The state does not grow with the text. Calls of cells and databases are not watched: the first
-/// one ends it. A read that fails is not tried again.
+/// The state does not grow with the text. Calls of cells, databases and buffers are not watched:
+/// the first one ends it. A read that fails is not tried again.
 pub fn watch<R: Read, W: Write, N: Write>(
     alloc: Global,
     reader: &mut R,

@@ -177,8 +177,8 @@ remedy causes.CallPending =
     codes "Record the line returns of that call before it; each worker is one thread."
 remedy causes.NoPendingCall = codes "Record the line calls of the call before it."
 remedy causes.Unsuited =
-    codes "advance, put, v, p, pboth and write return done, read, ticket and get a number, "
-    ++ codes "snapshot a number for each cell."
+    codes "advance, put, v, p, pboth, write and produce return done, read, ticket, get and "
+    ++ codes "consume a number, snapshot a number for each cell."
 remedy causes.CallLimit = codes "Raise the limit in the second line of the history."
 remedy causes.NoOrder = codes "Look in the program for what these calls do; evc-draw draws them."
 remedy causes.NotDecided = codes "Record puts of different values, and none of 0."

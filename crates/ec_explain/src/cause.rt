@@ -337,8 +337,8 @@ impl Cause {
                 b"Record the line returns of that call before it; each worker is one thread.",
             Cause::NoPendingCall => b"Record the line calls of the call before it.",
             Cause::Unsuited =>
-                b"advance, put, v, p, pboth and write return done, read, ticket and get a \
-                  number, snapshot a number for each cell.",
+                b"advance, put, v, p, pboth, write and produce return done, read, ticket, get and \
+                  consume a number, snapshot a number for each cell.",
             Cause::CallLimit => b"Raise the limit in the second line of the history.",
             Cause::NoOrder => b"Look in the program for what these calls do; evc-draw draws them.",
             Cause::NotDecided => b"Record puts of different values, and none of 0.",

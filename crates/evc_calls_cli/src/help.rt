@@ -49,8 +49,8 @@ pub(crate) const CHECK_LONG_ABOUT: &str =
 For each linearizable history it writes `evc-order 1`, the calls in order, each with its point (the
 position of the event before which it takes effect), the totals of the objects, and `end`; and a
 remark for each await that is pending although the count has surely reached its threshold. The first
-history that is not linearizable ends the check: a note names the first faulty line, and shows by
-counting that no order can be right.";
+history that is not linearizable ends the check: a note names the first faulty line (with calls of
+buffers, maybe a later one), and shows by counting that no order can be right.";
 
 pub(crate) const OF_ABOUT: &str = "Writes the calls of a trace of steps as a history of calls";
 
@@ -94,9 +94,9 @@ average when one is called, to two decimals, cut off:
     2 histories, 1200 calls, overlap 1.37
 
 Calls that rarely overlap test little. The bound on the length of a text does not hold here. No
-order is written, and no remark. Calls of cells and databases are not watched: the first one ends
-the command with status 5. For a note with all the lines that show the fault, record the text and
-run `evc-calls check` on it.";
+order is written, and no remark. Calls of cells, databases and buffers are not watched: the first
+one ends the command with status 5. For a note with all the lines that show the fault, record the
+text and run `evc-calls check` on it.";
 
 pub(crate) const FILE: &str =
     "The file with the histories; without it they are read from standard input";

@@ -15,6 +15,8 @@ use Rattle.calls_tickets.specs.declared.fault.Fault.TheVariants as ticket
 use Rattle.calls_verdict.specs.declared.verdict.Fault.{Fault}
 use Rattle.calls_verdict.specs.declared.verdict.Fault.TheVariants as faults
 use Rattle.calls_verdict.specs.declared.verdict.Refusal.{Refusal}
+use Rattle.calls_verdict.specs.declared.verdict.Cause as why
+use Rattle.calls_verdict.specs.declared.verdict.Cause.TheVariants.{Values, Unfound}
 use Rattle.calls_verdict.specs.declared.verdict.Undecided.{Undecided}
 use Rattle.calls_shapes.specs.Evidence.{faulty_calls}
 use Rattle.calls_text.specs.declared.fault.FaultKind.{FaultKind}
@@ -102,6 +104,8 @@ reason_for (faults.Ticket f) = ticket_reason f
 reason_for (faults.Units f) =
     codes "Each p and pboth that has returned took a unit that was there or was added.\n"
 reason_for (faults.Value f) = cell_reason f
+reason_for (faults.Items f) =
+    codes "A buffer returns its items in the order in which they were produced.\n"
 
 -- what is written on a history without linearization: the certificate, as `evc-calls check` notes
 -- it; the lines that it names; and why they leave no linearization
@@ -124,14 +128,23 @@ ExplainsRefused text n r t =
 
 -- HISTORIES THAT ARE NOT DECIDED
 
--- the second of two puts that overlap shows it
+-- the second of two puts that overlap shows it; of a buffer the event with which nothing is found
+abbrev pub open_position : why.Cause → ℕ
+open_position (Values u) = u.second.first
+open_position (Unfound m) = m
+
 abbrev pub undecided_finding : ℕ → RecordingModel → Undecided → Finding
-undecided_finding n r u = finding_at causes.NotDecided (event_line n r u.cause.second.first) 0
+undecided_finding n r u = finding_at causes.NotDecided (event_line n r (open_position u.cause)) 0
+
+-- the position of the first put
+abbrev pub first_put : why.Cause → List ℕ
+first_put (Values u) = u.first.first ∷ []
+first_put (Unfound m) = []
 
 -- what is written: the value, as `evc-calls check` notes it, and the line of its first put
 abbrev pub undecided_text : List ℕ → ℕ → RecordingModel → Undecided → List ℕ
 undecided_text text n r u =
-    undecided_note (site_of n r u.object 0) u.cause ++ seen_at text n r u.cause.first.first
+    undecided_note (site_of n r u.object 0) u.cause ++ seen_lines text n r (first_put u.cause)
 
 abbrev pub ExplainsUndecided : List ℕ → ℕ → RecordingModel → Explanation → Type 0
 ExplainsUndecided text n r t =

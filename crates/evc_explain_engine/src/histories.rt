@@ -11,6 +11,7 @@ ghost use Rattle.evc_explain_engine.specs.Histories.{if_before, ends_before, nam
 ghost use Rattle.evc_explain_engine.specs.Histories.{seen_lines, count_reason, ticket_reason, cell_reason};
 ghost use Rattle.evc_explain_engine.specs.Histories.{distinct_reason, reason_for, ExplainsRefused};
 ghost use Rattle.evc_explain_engine.specs.Histories.{ExplainsUndecided, Judges, ExplainsHistories, IsUnread};
+ghost use Rattle.evc_explain_engine.specs.Histories.{open_position, first_put};
 
 use crate::explanation::{Explanation, explain_finding, whole};
 use crate::good::ordered_bytes;
@@ -166,6 +167,8 @@ fn reason_for(fault: &Fault) -> &'static [u8]
         Fault::Units(_) =>
             b"Each p and pboth that has returned took a unit that was there or was added.\n",
         Fault::Value(fault) => cell_reason(fault),
+        Fault::Items(_) =>
+            b"A buffer returns its items in the order in which they were produced.\n",
     }
 }
 
@@ -193,6 +196,28 @@ fn explain_refused(
     explain_finding(alloc, &finding, more.as_slice(), text)
 }
 
+/// Returns the position of the event that shows that a history is not decided.
+fn open_position(cause: &calls_verdict::Cause) -> usize
+    ensures { result ≡ open_position cause.now }
+{
+    match cause {
+        calls_verdict::Cause::Values(values) => values.second.first,
+        calls_verdict::Cause::Unfound(position) => *position,
+    }
+}
+
+/// Returns the position of the first of two puts that overlap.
+fn first_put(alloc: Global, cause: &calls_verdict::Cause) -> Result<Vec<usize>, AllocError>
+    ensures { IfOk result (λ ps. ps.items ≡ first_put cause.now) }
+{
+    let mut positions = Vec::new(alloc);
+    match cause {
+        calls_verdict::Cause::Values(values) => positions.push(values.first.first)?,
+        calls_verdict::Cause::Unfound(_) => {}
+    }
+    Ok(positions)
+}
+
 /// Returns the explanation of a history that is not decided: the value that is the cause, and the
 /// line of its first put.
 fn explain_undecided(
@@ -204,14 +229,15 @@ fn explain_undecided(
     requires { IsUndecided read.now.recording undecided.now }
     ensures { IfOk result (ExplainsUndecided text.now read.now.number read.now.recording) }
 {
+    let positions = first_put(alloc, &undecided.cause)?;
     let mut bytes = Vec::new(alloc);
     let mut out = Output::new(&mut bytes);
     report_undecided(&mut out, read, undecided);
-    put_seen(&mut out, text, read, undecided.cause.first.first);
+    put_seen_lines(&mut out, text, read, positions.as_slice());
     let done = out.finish();
     out.into_writer();
     let more = whole(bytes, done)?;
-    let line = event_line(read, undecided.cause.second.first);
+    let line = event_line(read, open_position(&undecided.cause));
     let finding = finding_at(Cause::NotDecided, line, 0);
     explain_finding(alloc, &finding, more.as_slice(), text)
 }

@@ -1,8 +1,8 @@
 """Checks by counting what a note on a history without a linearization claims, and that it excludes a linearization."""
 
-from trying.calls.notes import said_in
+from trying.calls.notes import OF_BUFFERS, OPEN, said_in
 from trying.calls.orders import text_of_reply
-from trying.calls.search import search
+from trying.calls.search import fault_by_search, search
 from trying.calls.theorems import (
     called_before,
     doubled,
@@ -19,6 +19,7 @@ from trying.calls.theorems import (
     times_put,
     value_of,
 )
+from trying.calls.verdict import judge
 from trying.counting import Fault, need
 
 
@@ -30,15 +31,15 @@ def note_faults(history, verdict, note):
         return "it has none of the forms"
     try:
         for name, words in said:
-            if (name == "undecided") != (verdict.name == "undecided"):
+            if (name if name in OPEN else "refused") != verdict.name:
                 raise Fault(f"the verdict is {verdict.name}")
             if line is None:
-                check_undecided(history, words)
+                (check_undecided if name == "undecided" else check_unfound)(history, words)
                 continue
             claim = Claim(history, line)
-            if claim.at != verdict.position:
-                right = history.line_of(verdict.position)
-                raise Fault(f"the first faulty event is at line {right}")
+            if name in OF_BUFFERS:
+                claim.on_a_buffer()
+            claim.is_first(verdict.position)
             getattr(claim, name)(words)
     except Fault as wrong:
         return str(wrong)
@@ -62,6 +63,18 @@ def check_undecided(history, words):
     need(overlap(*puts), "the puts do not overlap")
 
 
+def check_unfound(history, words):
+    """Checks that all but buffers is linearizable, and that the buffer was before this line."""
+    part = next((part for part in history.parts() if part.key == words["B"]), None)
+    need(part is not None and part.kind == "buffer", f"{words['B']} is no buffer with calls")
+    other = judge(history, but_buffers=True)
+    need(other.name != "refused", "another object shows a fault")
+    position, fault = int(words["from"]) - history.first_line, fault_by_search(part)
+    need(fault is None or position <= fault, "there is a fault before that line")
+    ends = [at for call in part.calls for at in (call.first, call.last)]
+    need(position in ends, "the line is of another object")
+
+
 def ordinal(number):
     is_teen = number % 100 in (11, 12, 13)
     ending = "th" if is_teen else {1: "st", 2: "nd", 3: "rd"}.get(number % 10, "th")
@@ -80,6 +93,25 @@ class Claim:
             for call in calls:
                 if call.last == self.at:
                     self.part, self.calls, self.call = part, calls, call
+
+    def on_a_buffer(self):
+        """Finds the buffer on which the event is, also if it is an invocation."""
+        for part in self.history.parts():
+            if any(self.at in (call.first, call.last) for call in part.calls):
+                self.part, self.calls = part, part.before(self.at + 1)
+        need(self.part is not None and self.part.kind == "buffer", "the line is of no buffer")
+
+    def is_first(self, position):
+        """Checks that this is the first faulty event. A fault of a buffer may be found later than it is there, or not at
+        all, but before one of another object."""
+        others = judge(self.history, but_buffers=True).position
+        if self.part is None or self.part.kind != "buffer":
+            right = position if others is None else others
+            need(self.at == right, f"the first faulty event is at line {self.history.line_of(right)}")
+            return
+        fault = fault_by_search(self.part)
+        need(fault is not None and fault <= self.at, "there is a linearization up to that line")
+        need(others is None or self.at <= others, "another object has an earlier fault")
 
     def own(self, kind, name=None):
         """Checks that the line is of a response on an object of this kind, and of this name if there is one."""
@@ -278,3 +310,101 @@ class Claim:
         need(self.call not in named, "line N is among the lines")
         kept = [call for call in self.calls if call.op[0] == "put" or call in [*named, self.call]]
         need(search("cell", self.part.start, kept) is None, "a put is left for it")
+
+    # Buffers
+
+    def responses(self, words):
+        """Returns the calls that returned at the lines of the note."""
+        names = [name for name in ("one", "other") if words.groupdict().get(name)]
+        return [self.response(words[name]) for name in names]
+
+    def puts(self, test, holds):
+        """Returns how many produces of such items may have taken effect, among the calls for which this holds."""
+        calls = (one for one in self.calls if one.op[0] == "produce" and one.reply != "timeout")
+        return sum(1 for one in calls if test(one.op[1]) and holds(one))
+
+    def takes(self, test, holds):
+        """Returns how many consumes returned such items, among the calls for which this holds."""
+        calls = (one for one in self.calls if one.op[0] == "consume" and one.reply not in (None, "timeout"))
+        return sum(1 for one in calls if test(one.reply) and holds(one))
+
+    def pending_takes(self, at):
+        calls = (one for one in self.calls if one.op[0] == "consume" and one.last is None)
+        return sum(1 for one in calls if one.first <= at)
+
+    def untaken(self, at):
+        """Returns the test of items that no consume returned which was invoked up to there."""
+        return lambda item: self.takes(lambda it: it == item, lambda one: one.first <= at) == 0
+
+    def room(self):
+        return self.part.start[0]
+
+    def counts(self, words, **right):
+        """Checks the numbers of the note, and how much room there is if it says so."""
+        if words.groupdict().get("room"):
+            right["room"] = self.room()
+        for name, number in right.items():
+            need(words[name] is None or int(words[name]) == number, f"{name} is {number}")
+
+    def unproduced(self, words):
+        (call,) = self.responses(words)
+        need(call.op[0] == "consume", "the line is of no consume")
+        same, at = lambda it: it == call.reply, call.last
+        put, got = self.puts(same, lambda one: one.first <= at), self.takes(same, lambda one: one.last <= at)
+        need(put < got, "as many were produced")
+        self.counts(words, taken=got, put=put, item=call.reply)
+
+    def overfull(self, words):
+        (call,) = self.responses(words)
+        every, at = lambda it: True, call.last
+        put = self.puts(every, lambda one: one.last is not None and one.last <= at)
+        got = self.takes(every, lambda one: one.first <= at) + self.pending_takes(at)
+        need(put > self.room() + got, "there is room")
+        self.counts(words, put=put, taken=got)
+
+    def crowded(self, words):
+        (call,) = self.responses(words)
+        at = call.last
+        put = self.puts(self.untaken(at), lambda one: one.last is not None and one.last <= at)
+        need(put > self.room() + self.pending_takes(at), "there is room")
+        self.counts(words, left=put, pending=self.pending_takes(at))
+
+    def two(self, words):
+        """Returns the two calls, of which the first returned before any produce of the item of the second was invoked."""
+        one, other = self.responses(words)
+        need(other.op[0] == "consume", "the second line is of no consume")
+        known = self.puts(lambda it: it == other.reply, lambda call: call.first <= one.last)
+        need(known == 0, "its item may have been produced before")
+        return one, other
+
+    def overtaken(self, words):
+        one, other = self.two(words)
+        need(one.op[0] == "produce" and one.reply == "done", "the first line is of no produce")
+        same = lambda it: it == one.op[1]
+        put = self.puts(same, lambda call: call.last is not None and call.last <= one.last)
+        later = self.takes(same, lambda call: call.first > other.last)
+        every = self.puts(same, lambda call: True)
+        need(every < put + later, "so many produces are enough")
+        need((words["all"] is None) == (every == 1), "the counts are there if and only if they are needed")
+        self.counts(words, item=one.op[1], later_item=other.reply, before=put, later=later, all=every)
+
+    def passed(self, words):
+        one, other = self.two(words)
+        put = self.puts(self.untaken(other.last), lambda call: call.last is not None and call.last <= one.last)
+        asking = self.pending_takes(other.last)
+        need(put > asking, "they may have been taken")
+        self.counts(words, later_item=other.reply, left=put, pending=asking)
+
+    def squeezed(self, words):
+        one, other = self.responses(words)
+        need(other.op[0] == "produce" and other.reply == "done", "the second line is of no produce")
+        need(one.last < other.last, "the second line is the earlier one")
+        same = lambda it: it == other.op[1]
+        need(self.puts(same, lambda call: True) == 1, "the item was produced more than once")
+        got = self.takes(same, lambda call: call.first <= one.last)
+        put = self.puts(same, lambda call: call.first <= one.last)
+        need(got == 0 or put == 0, "the item may have been taken by then")
+        inside = self.puts(self.untaken(other.last), lambda call: call.last is not None and call.last <= one.last)
+        asking = self.pending_takes(other.last)
+        need(self.room() + asking <= inside, "there is room")
+        self.counts(words, item=other.op[1], left=inside, pending=asking)

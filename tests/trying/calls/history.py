@@ -7,7 +7,8 @@ from typing import NamedTuple, Optional
 class Call(NamedTuple):
     """A call. Its positions are those of its events. `last` and `reply` are None while it is
     pending. `op` is its operation: ("advance",), ("read",), ("await", v), ("ticket",),
-    ("put", value), ("get",), ("take", names) or ("give", name). `text` is how it is written."""
+    ("put", value), ("get",), ("take", names), ("give", name), ("produce", v) or ("consume",).
+    `text` is how it is written."""
 
     worker: str
     text: str
@@ -33,6 +34,7 @@ class History:
         self.sequencers = {}  # name: (take, whether it is a group's)
         self.cells = {}  # name with its index: (write, read, whether it is a group's)
         self.databases = {}  # name: (cells, write, read)
+        self.buffers = {}  # name: (cells, produce, consume)
         self.semaphores = {}  # name: (units at first, use)
         self.both = None  # who uses it
         self.starts = {}  # eventcount: its count at the beginning
@@ -76,6 +78,8 @@ class Part:
             self.start = {name: units for name, (units, _) in history.semaphores.items()}
         elif key in history.databases:
             self.kind, self.start = "cell", (0,) * history.databases[key][0]
+        elif key in history.buffers:
+            self.kind, self.start = "buffer", (history.buffers[key][0], ())
         else:
             kinds = {"ticket": "sequencer", "put": "cell", "get": "cell"}
             self.kind = kinds.get(op, "eventcount")

@@ -81,6 +81,7 @@ def add_objects(history, sort, name, number, one, other):
         history.eventcounts[f"{name or 'both'}.v"] = one, one, True
         history.sequencers[f"{name or 'both'}.p"] = one, True
     elif sort == "buffer":
+        history.buffers[name] = number, one, other
         history.eventcounts[f"{name}.in"] = one, one | other, True
         history.eventcounts[f"{name}.out"] = other, one | other, True
         history.sequencers[f"{name}.put"] = one, True
@@ -108,6 +109,8 @@ CALLS = {
     "pboth": (2, "none"),
     "write": (1, "more"),
     "snapshot": (1, "none"),
+    "produce": (1, "one"),
+    "consume": (1, "none"),
 }
 
 # The table of a call's object, and the index in an entry of those who may make the call.
@@ -123,6 +126,8 @@ TABLES = {
     "pboth": ("semaphores", 1),
     "write": ("databases", 1),
     "snapshot": ("databases", 2),
+    "produce": ("buffers", 1),
+    "consume": ("buffers", 2),
 }
 
 
@@ -147,7 +152,7 @@ def asked_of(history, words):
     rights = [known[word][place] for word in named if word in known]
     if len(rights) < objects or (name == "pboth" and history.both is None):
         return named[0], op_of(name, named, values), [], kinds | {5}
-    if table not in ("semaphores", "databases") and known[named[0]][-1]:
+    if table not in ("semaphores", "databases", "buffers") and known[named[0]][-1]:
         kinds.add(8)
     if name == "pboth":
         rights.append(history.both)

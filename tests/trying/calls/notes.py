@@ -15,10 +15,20 @@ DREW = (
     f"only (?P<n>{NUMBER}) (?P<tickets>tickets?) of (?P<T>[^ ]+)"
     f" can have drawn 0 to (?P<upto>{NUMBER})"
 )
+
+
+def some(name, noun):
+    """Returns the form of a number of this name, with a noun in the singular or the plural."""
+    return f"(?P<{name}>1(?= {noun}\\b)|(?!1 ){NUMBER}(?= {noun}s\\b)) {noun}s?"
+
+
+BY_LINE = f"by line (?P<one>{NUMBER}), "
+ROOM = f"room for (?P<room>{NUMBER})"
+ASKING = f"with (?P<pending>{NUMBER}) of these pending and {ROOM}"
 HELD = f"(?P<X>[^ ]+) returned (?P<value>{VALUE})"
 
-# The forms of notes on histories: the name of the form, and all after `line N: `. The note on what is
-# not decided has no line.
+# The forms of notes on histories: the name of the form, and all after `line N: `. The notes on what is
+# not decided have no line.
 NOTES = {
     "few": f"{RETURNED}, but only {ADVANCES} had been called{FROM}",
     "many": f"{RETURNED}, but when it was called \\(line (?P<L>{NUMBER})\\)"
@@ -38,10 +48,27 @@ NOTES = {
     "alternate": f"{HELD}, but (?P<one>{VALUE}) and (?P<other>{VALUE}) alternate:"
     f" lines (?P<lines>{NUMBER} {NUMBER} {NUMBER} {NUMBER})",
     "chain": f"{HELD}, but no (?P<put>put|write) is left for it(?:, by lines (?P<lines>{VALUE}))?",
+    "unproduced": f"{BY_LINE}{some('taken', 'consume')} had returned (?P<item>{NUMBER}),"
+    f" but only {some('put', 'produce')} called by then can have put it in",
+    "overfull": f"{BY_LINE}{some('put', 'produce')} had returned done,"
+    f" but only {some('taken', 'consume')} called by then can have taken an item, with {ROOM}",
+    "crowded": f"{BY_LINE}{some('left', 'item')} had been put in that no consume called by then has returned, {ASKING}",
+    "overtaken": f"{BY_LINE}(?P<item>{NUMBER}) was produced before (?P<later_item>{NUMBER}),"
+    f" but consumed after line (?P<other>{NUMBER}) had returned that"
+    f"(?:: {some('before', 'produce')} by line (?P=one) and {some('later', 'consume')} after line (?P=other),"
+    f" of {some('all', 'produce')} in all)?",
+    "passed": f"{BY_LINE}{some('left', 'item')} had been put in, and no (?P<later_item>{NUMBER}) produced;"
+    f" line (?P<other>{NUMBER}) returned that, and no consume called by then has returned the others,"
+    f" with (?P<pending>{NUMBER}) of these pending",
+    "squeezed": f"{BY_LINE}{some('left', 'item')} had been put in that no consume called by line (?P<other>{NUMBER})"
+    f" has returned, {ASKING}; and (?P<item>{NUMBER}), put in once, by then, was not taken by line (?P=one)",
+    "unfound": f"(?P<B>[^ ]+) is not decided from line (?P<from>{NUMBER}) on",
     "undecided": f"(?P<X>[^ ]+) is not decided: (?P<value>{VALUE}) was (?P<put>put|written)"
     f" more than once, and the (?P<puts>puts|writes) of lines (?P<one>{NUMBER})"
     f" and (?P<other>{NUMBER}) overlap",
 }
+OPEN = "undecided", "unfound"
+OF_BUFFERS = "unproduced", "overfull", "crowded", "overtaken", "passed", "squeezed"
 NOTE = re.compile(f"(?:line (?P<N>{NUMBER}): )?(?P<rest>.*)")
 
 
@@ -52,7 +79,7 @@ def said_in(note):
         return None, []
     said = [(name, re.fullmatch(text, form["rest"])) for name, text in NOTES.items()]
     has_line = form["N"] is not None
-    said = [it for it in said if it[1] and has_line == (it[0] != "undecided")]
+    said = [it for it in said if it[1] and has_line == (it[0] not in OPEN)]
     return int(form["N"]) if has_line else None, said
 
 

@@ -24,6 +24,7 @@ class Order:
                 self.parts[call] = part
         self.states = {part.key: first_state(part) for part in self.parts.values()}
         self.effects = {}  # how many calls took effect, by object and operation
+        self.produced = {}  # the items that were put into each buffer
 
     def add(self, line):
         form = ORDER_LINE.fullmatch(line)
@@ -58,6 +59,8 @@ class Order:
         if call.reply == "timeout":
             return
         word = call.text.split(" ")[0]
+        if word == "produce":
+            self.produced.setdefault(call.object, []).append(call.op[1])
         names = (*call.op[1], "both") if word == "pboth" else (call.object,)
         for name in names:
             key = name, "p" if word == "pboth" else word
@@ -82,17 +85,23 @@ class Order:
             elif sort == "both":
                 yield from (f"eventcount both.v {made('p')}", f"sequencer both.p {made('p')}")
             elif sort == "buffer":
-                yield from (f"eventcount {name}.{it} 0" for it in ("in", "out"))
-                yield from (f"sequencer {name}.{it} 0" for it in ("put", "take"))
+                moved = made("produce"), made("consume")
+                yield from (f"eventcount {name}.{it} {n}" for it, n in zip(("in", "out"), moved))
+                yield from (f"sequencer {name}.{it} {n}" for it, n in zip(("put", "take"), moved))
             elif sort == "database":
                 yield from (f"eventcount {name}.{it} {made('write')}" for it in ("start", "done"))
                 yield f"sequencer {name}.turn {made('write')}"
             if sort in ("cells", "buffer", "database"):
-                values = self.states.get(name, (0,) * number)
                 for at in range(number):
-                    cell = f"{name}[{at}]"
-                    value = values[at] if sort == "database" else self.states.get(cell, 0)
-                    yield f"cell {cell} {value}"
+                    yield f"cell {name}[{at}] {self.value_of(sort, name, number, at)}"
+
+    def value_of(self, sort, name, number, at):
+        """Returns what the cell at this place of a block has at the end."""
+        if sort == "cells":
+            return self.states.get(f"{name}[{at}]", 0)
+        if sort == "database":
+            return self.states.get(name, (0,) * number)[at]
+        return [0, *self.produced.get(name, [])[at::number]][-1]
 
 
 def check_order(history, lines):

@@ -173,9 +173,9 @@ def suits(call, reply, history):
     """Returns whether a call may have this reply: `done`, `timeout` or a tuple of numbers."""
     name = call.op[0]
     if reply == "done":
-        return name in ("advance", "await", "put", "take", "give")
+        return name in ("advance", "await", "put", "take", "give", "produce")
     if reply == "timeout":
-        return name in ("await", "take")
+        return name in ("await", "take", "produce", "consume")
     if name == "get" and call.object in history.databases:
         return len(reply) == history.databases[call.object][0]
-    return name in ("read", "await", "ticket", "get") and len(reply) == 1
+    return name in ("read", "await", "ticket", "get", "consume") and len(reply) == 1

@@ -1,6 +1,9 @@
 """What the second reading says of a text of histories of calls, and what is wrong with what `check` says."""
 
+import copy
+
 from trying.calls.claims import note_faults
+from trying.calls.notes import OPEN, form_of
 from trying.calls.orders import order_faults
 from trying.calls.reader import read
 from trying.calls.remarks import remarks
@@ -25,11 +28,27 @@ class Right:
     @property
     def status(self):
         if self.verdict:
-            return {"refused": 1, "undecided": 5}[self.verdict.name]
+            return 1 if self.verdict.name == "refused" else 5
         return 1 if self.fault else 0
+
+    def left_open(self, count, form):
+        """Returns what is right if, after so many histories, one is not decided since nothing was found of a buffer."""
+        histories = [*self.good, *([self.bad] if self.bad else [])]
+        if count >= len(histories) or not histories[count].buffers:
+            return self
+        right = copy.copy(self)
+        right.good, right.bad, right.fault = self.good[:count], histories[count], None
+        others = judge(right.bad, but_buffers=True)
+        right.verdict = others if form == "undecided" and others.name == form else Verdict("unfound")
+        return right
 
     def faults(self, ran):
         """Returns what is wrong with the result of a command."""
+        form = form_of(ran[2].decode("latin-1").rstrip("\n").split("\n")[-1])
+        is_open = ran[0] == 5 and form in OPEN
+        return (self.left_open(ran[1].count(b"evc-order 1\n"), form) if is_open else self).faults_of(ran)
+
+    def faults_of(self, ran):
         status, output, notes = ran
         found = []
         if status != self.status:

@@ -9,6 +9,8 @@ def after(kind, state, op, reply):
     name = op[0]
     if kind == "semaphores":
         return after_on_semaphores(state, op, reply)
+    if kind == "buffer":
+        return after_on_buffer(state, op, reply)
     if name == "put":
         return op[1]
     if name == "get":
@@ -35,6 +37,16 @@ def after_on_semaphores(state, op, reply):
     for name in op[1]:
         units[name] -= 1
     return tuple(sorted(units.items())) if min(units.values()) >= 0 else None
+
+
+def after_on_buffer(state, op, reply):
+    """Returns the same for a buffer. The state is the room and the items inside, the oldest first."""
+    room, items = state
+    if reply == "timeout":
+        return state
+    if op[0] == "produce":
+        return (room, (*items, op[1])) if len(items) < room else None
+    return (room, items[1:]) if items and reply in (None, items[0]) else None
 
 
 def first_state(part):

@@ -140,8 +140,8 @@ def obstacle_of(history):
         return b"no trace: the count of %s is not 0 at the beginning\n" % begun[0]
     for at, line in enumerate(lines[run:end], start=run + 1):
         words = line.split(b" ")
-        if words[1:2] == [b"calls"] and words[2] in b"p v pboth write snapshot".split():
-            return b"line %d: no trace: the call is of a semaphore or a database\n" % at
+        if words[1:2] == [b"calls"] and words[2] in b"p v pboth write snapshot produce consume".split():
+            return b"line %d: no trace: the call is of a semaphore, a database or a buffer\n" % at
     return None
 
 

@@ -2,7 +2,7 @@
 
 import bisect
 
-from trying.calls.search import first_with
+from trying.calls.search import fault_by_search, first_with
 
 
 def least_of(call):
@@ -203,6 +203,11 @@ def fault_of_cell(part):
         raise ValueError(f"{part.key} is not decided")
     fails = serial_fails if doubled(part.calls, part.start) else distinct_fails
     return first_with(lambda at: fails(part.before(at + 1), part.start), part.responses())
+
+
+def fault_of_buffer(part):
+    """(There is no theorem that decides each buffer, so orders are tried.)"""
+    return fault_by_search(part)
 
 
 def fault_by_theorem(part):

@@ -1,5 +1,7 @@
 """Random histories of calls: threads on right objects."""
 
+from trying.calls.search import after_on_buffer
+
 SORTS = (
     "eventcount eventcount eventcount sequencer sequencer cells cells database "
     "semaphores semaphores buffer"
@@ -70,7 +72,13 @@ class Threads:
         self.calls += [(worker, "snapshot", name) for worker in read]
 
     def buffer(self, name):
-        self.declarations.append(f"buffer {name} 2 produce {self.workers[0]} consume b")
+        produce = self.draw.sample(self.workers, self.draw.randint(1, len(self.workers) - 1))
+        consume, room = [it for it in self.workers if it not in produce], self.draw.randint(1, 3)
+        names = f"{' '.join(produce)} consume {' '.join(consume)}"
+        self.declarations.append(f"buffer {name} {room} produce {names}")
+        self.states[name] = room, ()
+        self.calls += [(worker, "produce", name) for worker in produce]
+        self.calls += [(worker, "consume", name) for worker in consume]
 
     def semaphores(self, name):
         count = self.draw.choice((1, 2, 2, 3))
@@ -115,6 +123,8 @@ class Threads:
         elif word in ("put", "write"):
             count = len(self.states[names[0]]) if word == "write" else 1
             numbers = [self.value() for _ in range(count)]
+        elif word == "produce":
+            numbers = [self.value()]
         self.left -= 1
         self.busy[worker] = [(word, *names, *numbers), None]
         self.lines.append(" ".join([f"{worker} calls", word, *names, *map(str, numbers)]))
@@ -138,6 +148,9 @@ class Threads:
             return " ".join(map(str, state))
         if word in ("read", "get"):
             return state
+        if word in ("produce", "consume") and (then := after_on_buffer(state, (word, *more), None)):
+            self.states[name] = then
+            return "done" if word == "produce" else state[1][0]
         if word == "await" and state >= more[0]:
             return self.draw.choice(("done", state))
         if word in ("p", "pboth") and all(self.states[it] > 0 for it in (name, *more)):

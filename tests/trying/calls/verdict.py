@@ -8,7 +8,8 @@ from trying.calls.theorems import fault_by_theorem, is_open
 
 class Verdict(NamedTuple):
     """The verdict on a history: `linearizable`; `refused` with the position of the first faulty
-    event; or `undecided` with the cells that are not decided."""
+    event; `undecided` with the cells that are not decided; or `unfound`, if it depends on a buffer
+    for which the program found nothing."""
 
     name: str
     position: Optional[int] = None
@@ -23,11 +24,14 @@ def opened_at(part):
     return first_with(lambda at: is_open(part.cut(at + 1)), ends)
 
 
-def judge(history, way=fault_by_theorem):
-    """Returns the verdict on a history. An object with a fault counts more than one that is not
-    decided. A cell with a fault before the event with which it is not decided has that fault."""
+def judge(history, way=fault_by_theorem, but_buffers=False):
+    """Returns the verdict on a history, or on its objects but the buffers. An object with a fault
+    counts more than one that is not decided. A cell with a fault before the event with which it is
+    not decided has that fault."""
     unclear, faults = [], []
     for part in history.parts():
+        if but_buffers and part.kind == "buffer":
+            continue
         opened = opened_at(part)
         fault = way(part if opened is None else part.cut(opened))
         if fault is not None:

@@ -8,7 +8,7 @@ from trying.calls.reader import Reader, scan
 from trying.calls.theorems import fault_by_theorem, givers, least_of, made_between, most_of, readers, takers
 from trying.counting import Fault, need
 
-UNWATCHED = "cells and databases are not watched: evc-calls check decides them"
+UNWATCHED = "cells, databases and buffers are not watched: evc-calls check decides them"
 
 SURE = re.compile(
     f"{RETURNED}, but when it was called \\(line (?P<L>{NUMBER})\\)"
@@ -77,11 +77,12 @@ def claim_faults(history, position, note):
 
 def stop_of(history):
     """Returns the first event that ends the command, as its position and why it does, or None."""
-    cells = [call.first for call in history.calls if call.op[0] in ("put", "get")]
+    unwatched = "put", "get", "produce", "consume"
+    cells = [call.first for call in history.calls if call.op[0] in unwatched]
     end = min(cells, default=history.events)
     faults = []
     for part in history.parts():
-        if part.kind != "cell":
+        if part.kind not in ("cell", "buffer"):
             faults.append(fault_by_theorem(part.cut(end)))
     refused = min((it for it in faults if it is not None), default=None)
     if refused is not None:

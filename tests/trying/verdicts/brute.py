@@ -7,6 +7,8 @@ A history has the kinds of its objects, each a name with numbers, and its events
 
 def first_state(kind):
     name, *numbers = kind
+    if name == "buffer":
+        return numbers[0], ()
     return tuple(numbers) if name in ("eventcount", "semaphores") else (0,)
 
 
@@ -14,6 +16,8 @@ def step(state, op, reply):
     """Returns the state after a call with this reply, or None if the object can't give it."""
     name, *args = op
     n = state[0]
+    if name in ("produce", "consume"):
+        return step_of_buffer(state, op, reply)
     if name == "advance":
         return (n + 1,) if reply == "done" else None
     if name == "read" or name == "get":
@@ -37,9 +41,22 @@ def step(state, op, reply):
     return tuple(after) if min(after) >= 0 and reply == "done" else None
 
 
+def step_of_buffer(state, op, reply):
+    room, items = state
+    if reply == "timeout":
+        return state
+    if op[0] == "produce":
+        return (room, items + (op[1],)) if reply == "done" and len(items) < room else None
+    return (room, items[1:]) if items[:1] == (reply,) else None
+
+
 def natural(state, op):
     """Returns the reply of a pending call that takes effect here, or None if it can't."""
     name, *args = op
+    if name == "produce":
+        return "done" if len(state[1]) < state[0] else None
+    if name == "consume":
+        return state[1][0] if state[1] else None
     if name in ("read", "get", "ticket"):
         return state[0]
     if name == "await":
@@ -106,6 +123,8 @@ def first_fault(kinds, events):
 
 
 def is_open(kind, events, k):
+    if kind[0] == "buffer":
+        return True
     if kind[0] not in ("cell", "database"):
         return False
     calls = [c for c in Calls(None, events).calls if c[1] == k]
@@ -126,7 +145,7 @@ def watched_fault(kinds, events):
     for at, (worker, what, *rest) in enumerate(events):
         if what == "calls":
             busy[worker] = rest[0]
-        if kinds[busy[worker]][0] not in ("cell", "database"):
+        if kinds[busy[worker]][0] not in ("cell", "database", "buffer"):
             own.append(at)
     fault = first_fault(kinds, [events[at] for at in own])
     return None if fault is None else own[fault]

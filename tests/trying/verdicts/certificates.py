@@ -1,6 +1,8 @@
 """Checks by counting what the certificate of a fault says of a history of calls."""
 
 from trying.verdicts.brute import Calls, is_linearizable
+from trying.verdicts.buffers import shows_of_buffer
+from trying.verdicts.histories import kept
 
 
 def least(op, reply):
@@ -29,6 +31,8 @@ def certificate_faults(kinds, events, at, k, name, words):
     begun = lambda op, upto: sum(1 for c in calls if c[2] == op and c[4] <= upto)
     start = kinds[k][1] if len(kinds[k]) > 1 else 0
     a, b = (named + [None, None])[:2]
+    if kinds[k][0] == "buffer":
+        return None if shows_of_buffer(calls, kinds[k][1], name, a, b) else name
     if name == "below":
         return None if a[2][0] == "await" and (
             a[2][1] == 0 if a[3] == "timeout" else a[3] < a[2][1]
@@ -76,14 +80,3 @@ def certificate_faults(kinds, events, at, k, name, words):
             kept(calls, lambda c: c[2][0] == "put" or c in named),
         ) else name
     return f"an unknown fault {name}"
-
-
-def kept(calls, holds):
-    """Returns the events of those calls of one object for which this holds."""
-    ends = []
-    for i, c in enumerate(calls):
-        if holds(c):
-            ends.append((c[4], (str(i), "calls", 0, c[2])))
-            if c[5] is not None:
-                ends.append((c[5], (str(i), "returns", c[3])))
-    return [event for _, event in sorted(ends, key=lambda it: it[0])]

@@ -6,6 +6,7 @@ import sys
 from trying.counting import Count
 from trying.running import run
 from trying.verdicts.brute import Calls, first_fault, first_state, is_open, step, watched_fault
+from trying.verdicts.buffers import undecided_faults
 from trying.verdicts.certificates import certificate_faults
 
 
@@ -86,18 +87,15 @@ def compare(kinds, events, verdict, stopped):
             return f"linearizable, but it has none with event {fault}"
         return order_faults(kinds, events, rest)
     if name == "undecided":
-        return None if is_open(
-            kinds[int(rest[0])],
-            events,
-            int(rest[0]),
-        ) else "undecided, and the cell is of a decided class"
+        k = int(rest[0])
+        if kinds[k][0] == "buffer":
+            return undecided_faults(kinds[k], events, k, int(rest[2]))
+        return None if is_open(kinds[k], events, k) else "undecided, and the cell is of a decided class"
     if name != "refused":
         return f"the verdict {name}"
     at, k = int(rest[0]), int(rest[1])
-    if any(is_open(kinds[j], events, j) for j in parts):
-        if fault is not None and fault <= at:
-            return None
-    if fault != at:
+    late = any(is_open(kinds[j], events, j) for j in parts)
+    if fault != at and not (late and fault is not None and fault < at):
         return f"refused at {at}, but the first fault is {fault}"
     return certificate_faults(kinds, events, at, k, rest[2], rest[3:])
 
@@ -114,8 +112,9 @@ def stops_of(driver, text):
     return [None if word == "-" else int(word) for word in answer(driver, "monitor", text).split()]
 
 
-def try_histories(driver, name, histories):
-    part = Count(name)
+def try_histories(driver, name, histories, most=None):
+    """Compares the verdicts on histories with a search. If `most` is given, at most so many may stay undecided."""
+    part, unclear = Count(name), 0
     while batch := list(itertools.islice(histories, 20000)):
         text = "".join(text_of(kinds, events) for kinds, events in batch)
         verdicts, stops = list(read_verdicts(answer(driver, "decide", text))), stops_of(driver, text)
@@ -123,5 +122,8 @@ def try_histories(driver, name, histories):
             sys.exit("run-calls: another number of verdicts or stops than of histories")
         for (kinds, events), verdict, stopped in zip(batch, verdicts, stops):
             what = compare(kinds, events, verdict, stopped)
+            unclear += verdict[0] == "undecided"
             part.add("a history", what and f"{what}\n{text_of(kinds, events)}")
-    return part.end()
+    if most is not None:
+        part.add("undecided", None if unclear <= most else f"{unclear} are, instead of {most}")
+    return part.end(f", {unclear} undecided" if unclear else "")

@@ -1,5 +1,6 @@
 """Histories of calls: all of a few calls on one object, random ones on several, and long ones."""
 
+import collections
 import itertools
 import random
 
@@ -11,6 +12,11 @@ VALUES = [
     (["put", 1], ["done"]),
     (["put", 2], ["done"]),
     (["get"], [0, 1, 2]),
+]
+ITEMS = [
+    (["produce", 1], ["done"]),
+    (["produce", 2], ["done"]),
+    (["consume"], [1, 2, "timeout"]),
 ]
 ALPHABETS = {
     ("eventcount", 0): [
@@ -34,7 +40,12 @@ ALPHABETS = {
     ],
     ("cell",): VALUES,
     ("database", 2): VALUES,
+    ("buffer", 1): ITEMS,
+    ("buffer", 2): ITEMS,
 }
+
+# The calls that may give up.
+WAITING = ("await", "p", "pboth", "produce", "consume")
 
 
 def shapes(count):
@@ -84,7 +95,7 @@ def random_history(rng, kinds, count, workers):
         k, op, reply = busy[worker]
         if reply is None:
             reply = natural(states[k], op)
-            if reply is None and op[0] in ("await", "p", "pboth") and rng.random() < 0.2:
+            if reply is None and op[0] in WAITING and rng.random() < 0.2:
                 reply = "timeout"
             if reply is not None:
                 states[k] = step(states[k], op, reply)
@@ -111,7 +122,7 @@ def random_histories(seed, count):
 def long_history(rng, kind, count, workers):
     """Returns a history of many calls of one object, as text, from a simulation of it."""
     sort = kind[0]
-    state, busy, fresh = 1 if sort == "semaphores" else 0, {}, 0
+    state, busy, fresh, items = 1 if sort == "semaphores" else 0, {}, 0, collections.deque()
     lines = [" ".join(map(str, kind)), "run"]
     for _ in range(2 * count):
         worker = rng.randrange(workers)
@@ -128,6 +139,13 @@ def long_history(rng, kind, count, workers):
         elif sort == "semaphores":
             op = "p 0" if state and rng.random() < 0.5 else "v 0"
             reply, state = "done", state + (1 if op == "v 0" else -1)
+        elif sort == "buffer":
+            if not items or (len(items) < kind[1] and rng.random() < 0.5):
+                fresh += 1
+                items.append(fresh)
+                op, reply = f"produce {fresh}", "done"
+            else:
+                op, reply = "consume", items.popleft()
         elif rng.random() < 0.3:
             fresh += 1
             op, reply, state = f"put {fresh}", "done", fresh
@@ -136,3 +154,14 @@ def long_history(rng, kind, count, workers):
         busy[worker] = reply
         lines.append(f"{worker} calls 0 {op}")
     return "\n".join(lines) + "\nend\n"
+
+
+def kept(calls, holds):
+    """The events of those calls of one object for which this holds."""
+    ends = []
+    for i, c in enumerate(calls):
+        if holds(c):
+            ends.append((c[4], (str(i), "calls", 0, c[2])))
+            if c[5] is not None:
+                ends.append((c[5], (str(i), "returns", c[3])))
+    return [event for _, event in sorted(ends, key=lambda it: it[0])]

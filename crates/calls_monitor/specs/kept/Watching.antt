@@ -3,7 +3,7 @@ use Rattle.std.specs.Prelude.{◌≡◌, ℕ, ◌+◌, ◌-◌, ◌^◌, ◌<◌
 use Rattle.std.specs.Prelude.{Some, slice_get, Result, Ok, Err}
 use Rattle.calls_core.specs.declared.history.Kind.{Kind}
 use Rattle.calls_core.specs.declared.history.Kind.TheVariants.{Eventcount, Sequencer, Semaphores}
-use Rattle.calls_core.specs.declared.history.Kind.TheVariants.{Cell, Database}
+use Rattle.calls_core.specs.declared.history.Kind.TheVariants.{Cell, Database, Buffer}
 use Rattle.calls_core.specs.declared.history.Action.{Action}
 use Rattle.calls_core.specs.declared.history.Event.{Event}
 use Rattle.calls_core.specs.Histories.{pending_calls, completed_calls, IsHistoryOf, part}
@@ -34,6 +34,7 @@ WatchesOf (Semaphores units) past (Units m) =
     Represents units past m × UpTo (call_count past) m.bank.added.items
 WatchesOf Cell past Nothing = Unit {0}
 WatchesOf (Database n) past Nothing = Unit {0}
+WatchesOf (Buffer n) past Nothing = Unit {0}
 WatchesOf _ _ _ = ⊥
 
 abbrev pub RoomFor : Watch → Action → Type 0

@@ -14,3 +14,9 @@ abbrev pub IsStoreOp : Op → Type 0
 IsStoreOp (ops.Put n) = Unit {0}
 IsStoreOp ops.Get = Unit {0}
 IsStoreOp _ = ⊥
+
+-- a produce or a consume
+abbrev pub IsItemOp : Op → Type 0
+IsItemOp (ops.Produce n) = Unit {0}
+IsItemOp ops.Consume = Unit {0}
+IsItemOp _ = ⊥

@@ -36,9 +36,10 @@ MayCome r w a =
 abbrev pub IsNextOf : RecordingModel → Event → Type 0
 IsNextOf r x = (x.at ≡ length r.events) × MayCome r x.worker x.action
 
--- a database is one of the groups
+-- a database or a buffer is one of the groups
 abbrev pub IsPlaced : HeadingModel → Object → Type 0
 IsPlaced h (objects.Database i d) = i < length h.groups
+IsPlaced h (objects.Buffer i b) = i < length h.groups
 IsPlaced h _ = Unit {0}
 
 -- the object is of the sort that the call needs; its groups are those at its indices
@@ -56,4 +57,6 @@ Fits h verbs.PBoth (objects.Pair i one j other common) =
     × (slice_get h.groups j ≡ Some (groups.Semaphore other))
 Fits h verbs.Write (objects.Database i d) = slice_get h.groups i ≡ Some (groups.Database d)
 Fits h verbs.Snapshot (objects.Database i d) = slice_get h.groups i ≡ Some (groups.Database d)
+Fits h verbs.Produce (objects.Buffer i b) = slice_get h.groups i ≡ Some (groups.Buffer b)
+Fits h verbs.Consume (objects.Buffer i b) = slice_get h.groups i ≡ Some (groups.Buffer b)
 Fits h _ _ = ⊥

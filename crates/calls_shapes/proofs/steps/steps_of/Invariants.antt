@@ -5,5 +5,5 @@ use Rattle.calls_shapes.proofs.steps.steps_of.Given as goal
 
 abbrev pub invariant-loop-placed : goal.invariant-loop-placed
 invariant-loop-placed l =
-    SoFar l.track.object l.track.index l.order l.placed-index l.steps.items l.value
+    SoFar l.track.object l.track.index l.order l.placed-index l.steps.items l.value l.produced
     (steps_of l.track.object l.track.index (start l.kinds l.track.object) l.order)

@@ -7,7 +7,7 @@ use Rattle.calls_watch.proofs.watching.report_unwatched.Goals as goal
 pub returns-clause-puts : goal.returns-clause-puts
 returns-clause-puts g c =
     subst (λ (k : ℕ). Puts c.args.notes.now c.say.new.self (line_words k
-    ++ codes "cells and databases are not watched: evc-calls check decides them\n"))
+    ++ codes "cells, databases and buffers are not watched: evc-calls check decides them\n"))
     c.saturating_sub.ensures
     (puts_then _ _ _ _ _
     (puts_then _ _ _ _ _ c.put.ensures.puts

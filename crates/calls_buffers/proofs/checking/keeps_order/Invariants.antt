@@ -1,0 +1,6 @@
+use Rattle.std.proofs.Common.{◌↔◌, drop}
+use Rattle.calls_buffers.proofs.Checks.{Rises}
+use Rattle.calls_buffers.proofs.checking.keeps_order.Given as goal
+
+abbrev pub invariant-loop-call : goal.invariant-loop-call
+invariant-loop-call l = Rises 0 l.calls ↔ Rises l.latest (drop l.call-index l.calls)

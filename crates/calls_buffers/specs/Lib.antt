@@ -1,0 +1,6 @@
+pub mod Queues
+pub mod Counts
+pub mod Faults
+pub mod Outcomes
+pub mod Laws
+pub mod kept

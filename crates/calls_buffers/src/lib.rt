@@ -1,0 +1,22 @@
+//! Decides whether the calls of a bounded buffer have a linearization, if it finds one or a fault.
+#![tactic(auto)]
+
+mod checking;
+mod counting;
+mod deciding;
+mod fault;
+mod finding;
+mod items;
+mod laws;
+mod ordering;
+mod planning;
+mod ranking;
+mod recorded;
+mod tally;
+mod testing;
+mod windows;
+
+pub use checking::verify;
+pub use deciding::{Outcome, decide};
+pub use fault::Fault;
+pub use laws::{a_buffer_is_a_queue, a_fault_leaves_no_order};

@@ -1,0 +1,112 @@
+-- The certificate of a buffer in words.
+use Rattle.std.specs.Prelude.{ℕ, ◌-◌, ◌==◌, List, [], ◌++◌, codes, decimal, slice_get}
+use Rattle.std.specs.Prelude.{if◌then◌else◌}
+use Rattle.std.specs.Option.{option_map_or}
+use Rattle.ec_heading.specs.declared.group.Group.{Group}
+use Rattle.ec_heading.specs.declared.group.Group.TheVariants as groups
+use Rattle.calls_core.specs.declared.history.Op.{Op}
+use Rattle.calls_core.specs.declared.history.Op.TheVariants.{Produce}
+use Rattle.calls_core.specs.declared.history.Reply.{Reply}
+use Rattle.calls_core.specs.declared.history.Reply.TheVariants.{Number}
+use Rattle.calls_core.specs.declared.history.Call.{Call}
+use Rattle.calls_buffers.specs.declared.fault.Fault.{Fault}
+use Rattle.calls_buffers.specs.declared.fault.Fault.TheVariants.{Unproduced, Overfull, Crowded}
+use Rattle.calls_buffers.specs.declared.fault.Fault.TheVariants.{Overtaken, Passed, Squeezed}
+use Rattle.calls_text.specs.Recordings.{first_group}
+use Rattle.calls_report.specs.Sites.{SiteModel, line_of}
+
+-- how many items a buffer has room for
+abbrev pub room_of : Group → ℕ
+room_of (groups.Buffer b) = b.cells
+room_of _ = 0
+
+abbrev pub room_in : SiteModel → ℕ
+room_in s = option_map_or room_of (slice_get s.heading.groups (s.object - first_group s.heading)) 0
+
+-- the item of a produce, and that which a consume returned
+abbrev pub put_item : Op → ℕ
+put_item (Produce v) = v
+put_item _ = 0
+
+abbrev pub taken_item : Reply → ℕ
+taken_item (Number v) = v
+taken_item _ = 0
+
+-- a number, and a noun in the singular or the plural
+abbrev pub some : ℕ → List ℕ → List ℕ
+some n noun = decimal n ++ codes " " ++ noun ++ (if n == 1 then [] else codes "s")
+
+abbrev pub by_line : SiteModel → ℕ → List ℕ
+by_line s n = codes "by line " ++ line_of s n ++ codes ", "
+
+abbrev pub room_text : SiteModel → List ℕ
+room_text s = codes "room for " ++ decimal (room_in s)
+
+-- how many of the consumes called up to a position are pending, and how much room there is
+abbrev pub pending_text : SiteModel → ℕ → List ℕ
+pending_text s n = codes ", with " ++ decimal n ++ codes " of these pending and " ++ room_text s
+
+-- an item was returned more often than it was put in
+abbrev pub unproduced_text : SiteModel → Call → ℕ → ℕ → List ℕ
+unproduced_text s c taken put =
+    by_line s c.last ++ some taken (codes "consume") ++ codes " had returned "
+    ++ decimal (taken_item c.reply) ++ codes ", but only " ++ some put (codes "produce")
+    ++ codes " called by then can have put it in"
+
+-- more was put in than there was room for
+abbrev pub overfull_text : SiteModel → Call → ℕ → ℕ → List ℕ
+overfull_text s c put taken =
+    by_line s c.last ++ some put (codes "produce") ++ codes " had returned done, but only "
+    ++ some taken (codes "consume") ++ codes " called by then can have taken an item, with "
+    ++ room_text s
+
+-- more items were left than there was room for
+abbrev pub crowded_text : SiteModel → Call → ℕ → ℕ → List ℕ
+crowded_text s c left pending =
+    by_line s c.last ++ some left (codes "item")
+    ++ codes " had been put in that no consume called by then has returned"
+    ++ pending_text s pending
+
+-- the counts of an item
+abbrev pub counts_text : SiteModel → Call → Call → ℕ → ℕ → ℕ → List ℕ
+counts_text s p c before later all =
+    codes ": " ++ some before (codes "produce") ++ codes " by line " ++ line_of s p.last
+    ++ codes " and " ++ some later (codes "consume") ++ codes " after line " ++ line_of s c.last
+    ++ codes ", of " ++ some all (codes "produce") ++ codes " in all"
+
+-- these counts, if it has not one produce
+abbrev pub of_all : SiteModel → Call → Call → ℕ → ℕ → ℕ → List ℕ
+of_all s p c before later all = if all == 1 then [] else counts_text s p c before later all
+
+-- an item was taken after one that was put in later
+abbrev pub overtaken_text : SiteModel → Call → Call → ℕ → ℕ → ℕ → List ℕ
+overtaken_text s p c before later all =
+    by_line s p.last ++ decimal (put_item p.op) ++ codes " was produced before "
+    ++ decimal (taken_item c.reply) ++ codes ", but consumed after line " ++ line_of s c.last
+    ++ codes " had returned that" ++ of_all s p c before later all
+
+-- items were not taken, and one that was put in later was
+abbrev pub passed_text : SiteModel → Call → Call → ℕ → ℕ → List ℕ
+passed_text s p c left pending =
+    by_line s p.last ++ some left (codes "item") ++ codes " had been put in, and no "
+    ++ decimal (taken_item c.reply) ++ codes " produced; line " ++ line_of s c.last
+    ++ codes " returned that, and no consume called by then has returned the others, with "
+    ++ decimal pending ++ codes " of these pending"
+
+-- the buffer was full, and one item more was put in
+abbrev pub squeezed_text : SiteModel → Call → Call → ℕ → ℕ → List ℕ
+squeezed_text s q p left pending =
+    by_line s q.last ++ some left (codes "item")
+    ++ codes " had been put in that no consume called by line " ++ line_of s p.last
+    ++ codes " has returned" ++ pending_text s pending ++ codes "; and "
+    ++ decimal (put_item p.op) ++ codes ", put in once, by then, was not taken by line "
+    ++ line_of s q.last
+
+-- what the calls of a buffer show
+abbrev pub item_text : SiteModel → Fault → List ℕ
+item_text s (Unproduced c taken put) = unproduced_text s c taken put
+item_text s (Overfull c put taken) = overfull_text s c put taken
+item_text s (Crowded c left pending) = crowded_text s c left pending
+item_text s (Overtaken p c before later all) = overtaken_text s p c before later all
+item_text s (Passed p c left pending) = passed_text s p c left pending
+item_text s (Squeezed q p left pending) = squeezed_text s q p left pending

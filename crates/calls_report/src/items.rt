@@ -1,0 +1,303 @@
+//! Why the calls of a buffer have no linearization, in words.
+ghost use Rattle.std.specs.Prelude.{◌≡◌, decimal};
+ghost use Rattle.ec_text.specs.Puts.{Puts};
+ghost use Rattle.calls_report.specs.Items.{room_of, room_in, some, by_line, put_item, taken_item};
+ghost use Rattle.calls_report.specs.Items.{room_text, pending_text, unproduced_text};
+ghost use Rattle.calls_report.specs.Items.{overfull_text, crowded_text, counts_text, of_all};
+ghost use Rattle.calls_report.specs.Items.{overtaken_text, passed_text, squeezed_text, item_text};
+
+use crate::refusal::Site;
+use calls_buffers::Fault;
+use calls_core::{Call, Op, Reply};
+use calls_text::first_group;
+use ec_heading::Group;
+use ec_text::Output;
+use std::io::Write;
+
+/// Returns how many items a buffer has room for, or 0 for another group.
+fn room_of(group: &Group) -> usize
+    ensures { result ≡ room_of group.now }
+{
+    match *group {
+        Group::Buffer(shape) => shape.cells(),
+        _ => 0,
+    }
+}
+
+/// Puts the item of a produce.
+fn put_produced<W: Write>(out: &mut Output<'_, W>, call: &Call)
+    ensures { Puts out.old out.new (decimal (put_item call.now.op)) }
+{
+    match call.op {
+        Op::Produce(value) => out.put_number(value as u64),
+        _ => out.put_number(0),
+    }
+}
+
+/// Puts the item that a consume returned.
+fn put_consumed<W: Write>(out: &mut Output<'_, W>, call: &Call)
+    ensures { Puts out.old out.new (decimal (taken_item call.now.reply)) }
+{
+    match call.reply {
+        Reply::Number(value) => out.put_number(value as u64),
+        _ => out.put_number(0),
+    }
+}
+
+/// Puts a number, and a noun in the singular or the plural.
+fn put_some<W: Write>(out: &mut Output<'_, W>, n: usize, noun: &[u8])
+    ensures { Puts out.old out.new (some n noun.now) }
+{
+    out.put_number(n as u64);
+    out.put(b" ");
+    out.put(noun);
+    if n != 1 {
+        out.put(b"s");
+    }
+}
+
+/// Returns how many items the buffer has room for.
+fn room(site: &Site<'_>) -> usize
+    ensures { result ≡ room_in site.now }
+{
+    let heading = site.speaker.heading;
+    let place = site.object.saturating_sub(first_group(heading));
+    match heading.groups().get(place) {
+        Some(group) => room_of(group),
+        None => 0,
+    }
+}
+
+/// Puts how many items the buffer has room for.
+fn put_capacity<W: Write>(out: &mut Output<'_, W>, site: &Site<'_>)
+    ensures { Puts out.old out.new (decimal (room_in site.now)) }
+{
+    out.put_number(room(site) as u64);
+}
+
+/// Puts a line as the end of what is counted.
+fn put_by_line<W: Write>(out: &mut Output<'_, W>, site: &Site<'_>, position: usize)
+    ensures { Puts out.old out.new (by_line site.now position) }
+{
+    out.put(b"by line ");
+    site.put_line(out, position);
+    out.put(b", ");
+}
+
+/// Puts how much room there is, in words.
+fn put_room<W: Write>(out: &mut Output<'_, W>, site: &Site<'_>)
+    ensures { Puts out.old out.new (room_text site.now) }
+{
+    out.put(b"room for ");
+    put_capacity(out, site);
+}
+
+/// Puts how many of the consumes called up to a position are pending, and how much room there is.
+fn put_pending<W: Write>(out: &mut Output<'_, W>, site: &Site<'_>, n: usize)
+    ensures { Puts out.old out.new (pending_text site.now n) }
+{
+    out.put(b", with ");
+    out.put_number(n as u64);
+    out.put(b" of these pending and ");
+    put_room(out, site);
+}
+
+/// Puts that an item was returned more often than it was put in.
+fn put_unproduced<W: Write>(
+    out: &mut Output<'_, W>,
+    site: &Site<'_>,
+    consume: &Call,
+    taken: usize,
+    put: usize,
+)
+    ensures { Puts out.old out.new (unproduced_text site.now consume.now taken put) }
+{
+    put_by_line(out, site, consume.last);
+    put_some(out, taken, b"consume");
+    out.put(b" had returned ");
+    put_consumed(out, consume);
+    out.put(b", but only ");
+    put_some(out, put, b"produce");
+    out.put(b" called by then can have put it in");
+}
+
+/// Puts that more was put in than there was room for.
+fn put_overfull<W: Write>(
+    out: &mut Output<'_, W>,
+    site: &Site<'_>,
+    call: &Call,
+    put: usize,
+    taken: usize,
+)
+    ensures { Puts out.old out.new (overfull_text site.now call.now put taken) }
+{
+    put_by_line(out, site, call.last);
+    put_some(out, put, b"produce");
+    out.put(b" had returned done, but only ");
+    put_some(out, taken, b"consume");
+    out.put(b" called by then can have taken an item, with ");
+    put_room(out, site);
+}
+
+/// Puts that more items were left than there was room for.
+fn put_crowded<W: Write>(
+    out: &mut Output<'_, W>,
+    site: &Site<'_>,
+    call: &Call,
+    left: usize,
+    pending: usize,
+)
+    ensures { Puts out.old out.new (crowded_text site.now call.now left pending) }
+{
+    put_by_line(out, site, call.last);
+    put_some(out, left, b"item");
+    out.put(b" had been put in that no consume called by then has returned");
+    put_pending(out, site, pending);
+}
+
+/// Puts how many of the produces and consumes of an item there were.
+fn put_counts<W: Write>(
+    out: &mut Output<'_, W>,
+    site: &Site<'_>,
+    put: &Call,
+    consume: &Call,
+    before: usize,
+    later: usize,
+    all: usize,
+)
+    ensures { Puts out.old out.new (counts_text site.now put.now consume.now before later all) }
+{
+    out.put(b": ");
+    put_some(out, before, b"produce");
+    out.put(b" by line ");
+    site.put_line(out, put.last);
+    out.put(b" and ");
+    put_some(out, later, b"consume");
+    out.put(b" after line ");
+    site.put_line(out, consume.last);
+    out.put(b", of ");
+    put_some(out, all, b"produce");
+    out.put(b" in all");
+}
+
+/// Puts these counts, if there was not one produce.
+fn put_of_all<W: Write>(
+    out: &mut Output<'_, W>,
+    site: &Site<'_>,
+    put: &Call,
+    consume: &Call,
+    before: usize,
+    later: usize,
+    all: usize,
+)
+    ensures { Puts out.old out.new (of_all site.now put.now consume.now before later all) }
+{
+    if all != 1 {
+        put_counts(out, site, put, consume, before, later, all);
+    }
+}
+
+/// Puts that an item was taken after one that was put in later.
+fn put_overtaken<W: Write>(
+    out: &mut Output<'_, W>,
+    site: &Site<'_>,
+    put: &Call,
+    consume: &Call,
+    before: usize,
+    later: usize,
+    all: usize,
+)
+    ensures { Puts out.old out.new (overtaken_text site.now put.now consume.now before later all) }
+{
+    put_by_line(out, site, put.last);
+    put_produced(out, put);
+    out.put(b" was produced before ");
+    put_consumed(out, consume);
+    out.put(b", but consumed after line ");
+    site.put_line(out, consume.last);
+    out.put(b" had returned that");
+    put_of_all(out, site, put, consume, before, later, all);
+}
+
+/// Puts that items were not taken, and one that was put in later was.
+fn put_passed<W: Write>(
+    out: &mut Output<'_, W>,
+    site: &Site<'_>,
+    put: &Call,
+    consume: &Call,
+    left: usize,
+    pending: usize,
+)
+    ensures { Puts out.old out.new (passed_text site.now put.now consume.now left pending) }
+{
+    put_by_line(out, site, put.last);
+    put_some(out, left, b"item");
+    out.put(b" had been put in, and no ");
+    put_consumed(out, consume);
+    out.put(b" produced; line ");
+    site.put_line(out, consume.last);
+    out.put(b" returned that, and no consume called by then has returned the others, with ");
+    out.put_number(pending as u64);
+    out.put(b" of these pending");
+}
+
+/// Puts that the buffer was full, and one item more was put in.
+fn put_squeezed<W: Write>(
+    out: &mut Output<'_, W>,
+    site: &Site<'_>,
+    full: &Call,
+    put: &Call,
+    left: usize,
+    pending: usize,
+)
+    ensures { Puts out.old out.new (squeezed_text site.now full.now put.now left pending) }
+{
+    put_by_line(out, site, full.last);
+    put_some(out, left, b"item");
+    out.put(b" had been put in that no consume called by line ");
+    site.put_line(out, put.last);
+    out.put(b" has returned");
+    put_pending(out, site, pending);
+    out.put(b"; and ");
+    put_produced(out, put);
+    out.put(b", put in once, by then, was not taken by line ");
+    site.put_line(out, full.last);
+}
+
+/// Puts what the calls of a buffer show.
+pub(crate) fn put_items<W: Write>(out: &mut Output<'_, W>, site: &Site<'_>, fault: &Fault)
+    ensures { Puts out.old out.new (item_text site.now fault.now) }
+{
+    match *fault {
+        Fault::Unproduced {
+            consume,
+            taken,
+            put,
+        } => put_unproduced(out, site, &consume, taken, put),
+        Fault::Overfull { call, put, taken } => put_overfull(out, site, &call, put, taken),
+        Fault::Crowded {
+            call,
+            left,
+            pending,
+        } => put_crowded(out, site, &call, left, pending),
+        Fault::Overtaken {
+            put,
+            consume,
+            before,
+            later,
+            all,
+        } => put_overtaken(out, site, &put, &consume, before, later, all),
+        Fault::Passed {
+            put,
+            consume,
+            left,
+            pending,
+        } => put_passed(out, site, &put, &consume, left, pending),
+        Fault::Squeezed {
+            full,
+            put,
+            left,
+            pending,
+        } => put_squeezed(out, site, &full, &put, left, pending),
+    }
+}

@@ -1,0 +1,105 @@
+//! A decision on the calls of a buffer.
+ghost use Rattle.std.specs.Prelude.{◌+◌, ◌<◌, ◌≤◌, length, reverse, IfOk};
+ghost use Rattle.calls_core.specs.declared.history.Kind.TheVariants.{Buffer};
+ghost use Rattle.calls_core.specs.Histories.{IsHistoryOf, clock};
+ghost use Rattle.calls_core.specs.Beginnings.{past_at};
+ghost use Rattle.calls_buffers.specs.Faults.{Shows};
+ghost use Rattle.calls_verdict.specs.Verdicts.{IsDecision};
+
+use crate::verdict::{Cause, Decision, Fault};
+use calls_core::{Part, PlacedCalls};
+use std::alloc::{AllocError, Global};
+
+/// Returns an index between two others, halfway.
+fn middle(low: usize, high: usize) -> usize
+    requires apart { low + 1 < high }
+    ensures above { low < result }
+    ensures below { result < high }
+{
+    low + (high - low) / 2
+}
+
+/// Finds by halving an event with which a fault is found, and is not found without it. The first
+/// `upto` events show a fault.
+fn refuse(
+    alloc: Global,
+    room: usize,
+    events: &Part<'_, '_>,
+    end: usize,
+    upto: usize,
+    fault: calls_buffers::Fault,
+) -> Result<Decision, AllocError>
+    requires history { IsHistoryOf (Buffer room) (reverse events.now) }
+    requires late { clock (reverse events.now) ≤ end }
+    requires some { 0 < upto }
+    requires within { upto ≤ length events.now }
+    requires shown { Shows room (past_at upto events.now) fault }
+    ensures { IfOk result (IsDecision (Buffer room) events.now end) }
+{
+    let mut fault = fault;
+    let mut low = 0;
+    let mut high = upto;
+    while high - low > 1 {
+        let mid = middle(low, high);
+        let beginning = events.first(mid);
+        match calls_buffers::decide(alloc, room, &beginning, end)? {
+            calls_buffers::Outcome::Refused(found) => {
+                fault = found;
+                high = mid;
+            }
+            calls_buffers::Outcome::Ordered(_) => low = mid,
+            calls_buffers::Outcome::NotDecided => low = mid,
+        }
+    }
+    Ok(Decision::Refused(low, Fault::Items(fault)))
+}
+
+/// Finds by halving the first event with which no linearization is found, or a fault.
+fn leave_open(
+    alloc: Global,
+    room: usize,
+    events: &Part<'_, '_>,
+    end: usize,
+) -> Result<Decision, AllocError>
+    requires history { IsHistoryOf (Buffer room) (reverse events.now) }
+    requires late { clock (reverse events.now) ≤ end }
+    requires some { 0 < length events.now }
+    ensures { IfOk result (IsDecision (Buffer room) events.now end) }
+{
+    let mut low = 0;
+    let mut high = events.len();
+    while high - low > 1 {
+        let mid = middle(low, high);
+        let beginning = events.first(mid);
+        match calls_buffers::decide(alloc, room, &beginning, end)? {
+            calls_buffers::Outcome::Ordered(_) => low = mid,
+            calls_buffers::Outcome::Refused(fault) => {
+                return refuse(alloc, room, events, end, mid, fault);
+            }
+            calls_buffers::Outcome::NotDecided => high = mid,
+        }
+    }
+    Ok(Decision::Open(low, Cause::Unfound(events.at(low).at)))
+}
+
+/// Decides the calls of a buffer with room for so many items, where an order or a fault is found.
+pub fn decide_buffer(
+    alloc: Global,
+    room: usize,
+    events: &Part<'_, '_>,
+    end: usize,
+) -> Result<Decision, AllocError>
+    requires history { IsHistoryOf (Buffer room) (reverse events.now) }
+    requires late { clock (reverse events.now) ≤ end }
+    ensures { IfOk result (IsDecision (Buffer room) events.now end) }
+{
+    let count = events.len();
+    if count == 0 {
+        return Ok(Decision::Ordered(PlacedCalls::new(alloc)));
+    }
+    match calls_buffers::decide(alloc, room, events, end)? {
+        calls_buffers::Outcome::Ordered(calls) => Ok(Decision::Ordered(calls)),
+        calls_buffers::Outcome::Refused(fault) => refuse(alloc, room, events, end, count, fault),
+        calls_buffers::Outcome::NotDecided => leave_open(alloc, room, events, end),
+    }
+}

@@ -1,0 +1,42 @@
+"""What the certificate of a fault of a buffer says of its calls, by counting, and what an undecided one leaves open."""
+
+from trying.verdicts.brute import Calls, is_linearizable
+from trying.verdicts.histories import kept
+
+
+def shows_of_buffer(calls, room, name, a, b):
+    """Whether the calls of a buffer show a fault of this name, by these two calls."""
+    done = [c for c in calls if c[5] is not None and c[3] != "timeout"]
+    pending = [c for c in calls if c[5] is None]
+    puts = lambda cs, v: [c for c in cs if c[2][0] == "produce" and v in (None, c[2][1])]
+    takes = lambda v: [c for c in done if c[2][0] == "consume" and v in (None, c[3])]
+    begun = lambda cs, upto: sum(1 for c in cs if c[4] <= upto)
+    ended = lambda cs, upto: sum(1 for c in cs if c[5] <= upto)
+    begun_puts = lambda v, upto: begun(puts(done, v) + puts(pending, v), upto)
+    asking = lambda upto: begun([c for c in pending if c[2][0] == "consume"], upto)
+    left = lambda upto: [c for c in puts(done, None) if not begun(takes(c[2][1]), upto)]
+    if name == "unproduced":
+        return begun_puts(a[3], a[5]) < ended(takes(a[3]), a[5])
+    if name == "overfull":
+        return room + begun(takes(None), a[5]) + asking(a[5]) < ended(puts(done, None), a[5])
+    if name == "crowded":
+        return room + asking(a[5]) < ended(left(a[5]), a[5])
+    if name == "squeezed":
+        z = b[2][1]
+        apart = not begun(takes(z), a[5]) or not begun_puts(z, a[5])
+        once = len(puts(done + pending, z)) == 1
+        full = room + asking(b[5]) <= ended(left(b[5]), a[5])
+        return a[5] < b[5] and once and apart and full
+    if begun_puts(b[3], a[5]):
+        return False
+    if name == "overtaken":
+        x = a[2][1]
+        later = sum(1 for c in takes(x) if b[5] < c[4])
+        return len(puts(done + pending, x)) < ended(puts(done, x), a[5]) + later
+    return name == "passed" and asking(b[5]) < ended(left(b[5]), a[5])
+
+
+def undecided_faults(kind, events, k, at):
+    """What is wrong with a buffer k that is undecided from this position on."""
+    own = kept([c for c in Calls(None, events[:at]).calls if c[1] == k], lambda call: True)
+    return None if is_linearizable([kind], own) else f"undecided from {at} on, but faulty before"
