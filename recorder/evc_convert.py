@@ -21,15 +21,20 @@ wrote is judged by `evc-calls check`. An event has a list as its value, first th
     pboth       [:R :S]
     write       [:D v1 .. vn]
     snapshot    [:D]                   [:D v1 .. vn]
+    produce     [:B item]
+    consume     [:B]                   [:B item]
 
-With --register X an event has only its value, as in Jepsen's tests of a register: `write` is then
-a put into X[0] and `read` a get. Values are whole numbers from 0, nil at the start is 0.
+With --register X or --queue B an event has only its value, as in Jepsen's tests: `write` is then a
+put into X[0] and `read` a get; `enqueue` is a produce and `dequeue` a consume, also on the way back.
+Values are whole numbers from 0, nil in a register is 0. Let each item be another number.
 
-:fail removes the call, as it had no effect; for an await, a p and a pboth it is a timeout. :info
-leaves the call pending, and its process goes on as another worker: p0, then p0_1. Processes that
-are no numbers, as :nemesis, are left out. All workers may use all objects; those that write a
-database write it, and the others read it. --initial S=2 says how many units a semaphore has at
-first (1 without it), --from E=3 at which count an eventcount starts (0).
+:fail removes the call, as it had no effect; for an await, p, pboth, produce or consume it is a
+timeout. :info leaves the call pending, and its process goes on as another worker: p0, then p0_1.
+Processes that are no numbers, as :nemesis, are left out. All workers may use all objects; those
+that write a database write it, and the others read it, and so with a buffer. A process that
+produces and consumes becomes two workers: p0, and p0c, which consumes. --initial S=2 says how many
+units a semaphore has at first (1 without it), --from E=3 at which count an eventcount starts (0),
+--room B=4 how many items a buffer has room for (all of them).
 
 On the way back the process of a worker is its position in the header, and a timeout is :fail.
 
@@ -53,9 +58,13 @@ KINDS = {
     "pboth": "semaphore",
     "write": "database",
     "snapshot": "database",
+    "produce": "buffer",
+    "consume": "buffer",
 }
-TIMED = ("await", "p", "pboth")
-ANSWERED = ("read", "await", "ticket", "get", "snapshot")
+REGISTER = {"read": "get", "write": "put"}
+QUEUE = {"enqueue": "produce", "dequeue": "consume"}
+TIMED = ("await", "p", "pboth", "produce", "consume")
+ANSWERED = ("read", "await", "ticket", "get", "snapshot", "consume")
 RESERVED = set(
     """advance await both buffer cells consume database done end eventcount get go hand last limit
     observe p pboth pending produce put read repeat run schedule semaphore sequencer signal snapshot
@@ -156,13 +165,15 @@ def numbers(items, what):
     return list(items)
 
 
-def with_object(event, register):
+def with_object(event, register, queue):
     """Returns the operation, and the value with its object first."""
     f, value = word(event.get("f")), event.get("value")
     if register:
         need(f in ("read", "write", "get", "put"), f"a register has no {f}")
-        f = {"read": "get", "write": "put"}.get(f, f)
-        return f, [register, 0, 0 if value is None else value]
+        return REGISTER.get(f, f), [register, 0, 0 if value is None else value]
+    if queue:
+        need(f in QUEUE, f"a queue has no {f}")
+        return QUEUE[f], [queue] if value is None else [queue, value]
     need(f in KINDS, f"there is no call {f}")
     value = value if isinstance(value, list) else [value]
     need(value and isinstance(value[0], str), f"{f}: the value has no object: {value}")
@@ -171,7 +182,7 @@ def with_object(event, register):
 
 def called(f, value):
     """Returns the object and the numbers of an invocation, and how many it has to have."""
-    counts = {"await": 1, "put": 2, "get": 1}
+    counts = {"await": 1, "put": 2, "get": 1, "produce": 1}
     if f == "pboth":
         are_two = len(value) == 2 and isinstance(value[1], str)
         need(are_two, f"pboth: {value} are not two semaphores")
@@ -196,7 +207,7 @@ def answer(call, value):
     return " ".join(map(str, numbers(found, call.f)))
 
 
-def history_of(events, register):
+def history_of(events, register, queue):
     """Returns the calls, and the lines of the run as pairs of a call and whether it returns."""
     calls, pending, changes, run = [], {}, {}, []
     for number, event in enumerate(events):
@@ -206,7 +217,7 @@ def history_of(events, register):
             continue
         if kind == "invoke":
             need(process not in pending, f"event {number}: a call of process {process} is pending")
-            f, value = with_object(event, register)
+            f, value = with_object(event, register, queue)
             changed = changes.get(process, 0)
             worker = f"p{process}_{changed}" if changed else f"p{process}"
             call = pending[process] = Call(worker, f, called(f, value))
@@ -222,9 +233,19 @@ def history_of(events, register):
             call.is_struck = True
         else:
             is_right = kind == "ok"
-            call.reply = answer(call, with_object(event, register)[1]) if is_right else "timeout"
+            value = with_object(event, register, queue)[1]
+            call.reply = answer(call, value) if is_right else "timeout"
             run.append((call, True))
-    return [it for it in calls if not it.is_struck], [it for it in run if not it[0].is_struck]
+    calls = [it for it in calls if not it.is_struck]
+    split_roles(calls)
+    return calls, [it for it in run if not it[0].is_struck]
+
+
+def split_roles(calls):
+    """Lets another worker consume, if one produces and consumes: it may not."""
+    produce = {(it.worker, it.name) for it in calls if it.f == "produce"}
+    for call in [it for it in calls if it.f == "consume" and (it.worker, it.name) in produce]:
+        call.worker += "c"
 
 
 # Writing a history.
@@ -242,7 +263,7 @@ def objects_of(calls):
     return found
 
 
-def declaration(name, kind, calls, workers, initial):
+def declaration(name, kind, calls, workers, initial, room):
     """Returns the line that declares an object."""
     mine, all_of = [it for it in calls if it.name == name], " ".join(workers)
     if kind == "eventcount":
@@ -254,8 +275,14 @@ def declaration(name, kind, calls, workers, initial):
     if kind == "cells":
         count = max(it.value[1] for it in mine) + 1
         return f"cells {name} {count} write {all_of} read {all_of}"
-    writers = [it for it in workers if any(c.worker == it and c.f == "write" for c in mine)]
-    readers = [it for it in workers if it not in writers]
+    is_first = {c.worker for c in mine if c.f in ("write", "produce")}
+    writers = [it for it in workers if it in is_first]
+    readers = [it for it in workers if it not in is_first]
+    if kind == "buffer":
+        need(writers and readers, f"{name}: nobody produces, or nobody is left to consume")
+        items = room.get(name) or sum(c.f == "produce" for c in mine)
+        need(items <= 256, f"{name}: {items} items are too many: give --room {name}=N, at most 256")
+        return f"buffer {name} {items} produce {' '.join(writers)} consume {' '.join(readers)}"
     both = [c.worker for c in mine if c.f == "snapshot" and c.worker in writers]
     need(writers and readers and not both, f"{name}: who writes a database may not read it")
     widths = {len(c.value) - 1 for c in mine if c.f == "write"}
@@ -270,14 +297,14 @@ def invocation(call):
     return " ".join([call.worker, "calls", call.f, first, *map(str, rest)])
 
 
-def text_of(calls, run, initial, start):
+def text_of(calls, run, initial, start, room):
     workers = list(dict.fromkeys(it.worker for it in calls)) or ["p0"]
     need(len(workers) <= 16, f"{len(workers)} workers: a history has at most 16")
     objects = objects_of(calls)
-    for name in [*initial, *start]:
+    for name in [*initial, *start, *room]:
         need(name in objects, f"there is no {name}")
     lines = ["evc-calls 1", f"limit {LIMIT}", f"workers {' '.join(workers)}"]
-    lines += [declaration(name, kind, calls, workers, initial) for name, kind in objects.items()]
+    lines += [declaration(*it, calls, workers, initial, room) for it in objects.items()]
     if any(it.f == "pboth" for it in calls):
         lines.append(f"both use {' '.join(workers)}")
     lines += [f"from {name} {number}" for name, number in start.items() if number > 0]
@@ -326,9 +353,18 @@ def returned(f, value, reply):
     return "ok", f, kept + ([] if reply == ["done"] else [int(it) for it in reply])
 
 
+def of_queue(queue, process, kind, f, value):
+    """Returns an event of a queue as in Jepsen's tests: its value is the item."""
+    names = {it: name for name, it in QUEUE.items()}
+    need(f in names and value[0] == queue, f"{f} {value[0]} is no call of {queue}")
+    return process, kind, names[f], value[1] if len(value) > 1 else None
+
+
 def edn_line(process, kind, f, value):
-    shown = " ".join(f":{it}" if isinstance(it, str) else str(it) for it in value)
-    return f"{{:process {process}, :type :{kind}, :f :{f}, :value [{shown}]}}"
+    if isinstance(value, list):
+        value = f"[{' '.join(f':{it}' if isinstance(it, str) else str(it) for it in value)}]"
+    shown = "nil" if value is None else value
+    return f"{{:process {process}, :type :{kind}, :f :{f}, :value {shown}}}"
 
 
 def json_line(process, kind, f, value):
@@ -348,10 +384,13 @@ def pair(given):
 def converted(words, text):
     if words.form in ("edn", "json"):
         line = edn_line if words.form == "edn" else json_line
-        return "".join(line(*it) + "\n" for it in events_of_text(text))
+        found = events_of_text(text)
+        if words.queue:
+            found = (of_queue(words.queue, *it) for it in found)
+        return "".join(line(*it) + "\n" for it in found)
     events = events_of_edn(text) if words.form == "from-edn" else events_of_json(text)
-    calls, run = history_of(events, words.register)
-    return text_of(calls, run, dict(words.initial), dict(words.start))
+    calls, run = history_of(events, words.register, words.queue)
+    return text_of(calls, run, dict(words.initial), dict(words.start), dict(words.room))
 
 
 def main():
@@ -361,6 +400,8 @@ def main():
     parser.add_argument("form", choices=["from-edn", "from-json", "edn", "json"])
     parser.add_argument("file", nargs="?", default="-")
     parser.add_argument("--register", metavar="X")
+    parser.add_argument("--queue", metavar="B")
+    parser.add_argument("--room", metavar="B=N", type=pair, action="append", default=[])
     parser.add_argument("--initial", metavar="S=N", type=pair, action="append", default=[])
     parser.add_argument(
         "--from", metavar="E=N", type=pair, action="append", default=[], dest="start"

@@ -21,12 +21,15 @@
  * function of yours.
  *
  * SHAPES. EVC_STRESS_MIXED: half of the threads (`producers`) advance and read, the others read and
- * await. EVC_STRESS_RING: each thread awaits its turn and advances, so every wake-up is needed. For
- * other objects give `declare` and `work` in place of advance, read and await.
+ * await. EVC_STRESS_RING: each thread awaits its turn and advances, so every wake-up is needed.
+ * EVC_STRESS_QUEUE, with `produce`, `consume` and `capacity`: the producers produce, ten items each
+ * with numbers of their own, and the others consume as many. Either both may give up, or neither.
+ * For other objects give `declare` and `work` in place of these functions.
  *
  * All threads spin at a gate and start at once, and pause by chance between calls. The same seed
  * gives the same pauses; how the threads interleave is up to the machine. It stops at the first
- * history that is wrong or hung, and keeps it as the file `keep`, with its note in `keep`.note. A
+ * history that is wrong or hung, and keeps it as the file `keep`, with its note in `keep`.note. If
+ * there is none, but some round is not decided, the first of these is kept: there is no verdict. A
  * pass says little if few calls overlapped: `overlap` is how many calls of others were pending when
  * one was called, on average. Below 0.3 a pass is called weak. */
 #ifndef EVC_STRESS_H
@@ -38,7 +41,8 @@
 #include <sys/wait.h>
 
 /* Judges a history, or several, one after another. Returns 0 if each is linearizable, 1 if one is
- * not, and otherwise a status without a verdict. The note is lines, ended by 0: why, or remarks. */
+ * not, 5 if one is not decided, and otherwise a status without a verdict. The note is lines, ended
+ * by 0: why, or remarks. */
 typedef int (*evc_judge)(const char *text, size_t length, char *note, size_t room);
 
 /* Writes a text to the judge's input, and reads its notes. */
@@ -139,11 +143,11 @@ static inline void evc_chance_pause(evc_chance *chance) {
         evc_nap_(1000);
 }
 
-/* What an await returns, other than the count. */
+/* What an await returns, other than the count, and a consume, other than an item. */
 #define EVC_STRESS_DONE UINT64_MAX
 #define EVC_STRESS_TIMEOUT (UINT64_MAX - 1)
 
-enum evc_stress_shape { EVC_STRESS_MIXED, EVC_STRESS_RING };
+enum evc_stress_shape { EVC_STRESS_MIXED, EVC_STRESS_RING, EVC_STRESS_QUEUE };
 
 /* The numbers are the statuses of evc_stress_says. */
 enum evc_stress_result {
@@ -168,7 +172,8 @@ typedef struct evc_stress {
     int rounds;    /* [1000] */
     int room;      /* for the calls of a thread in a round [64] */
     int batch;     /* so many rounds are judged together [20 by the program, otherwise 1] */
-    int producers; /* so many threads advance, if the shape is mixed [half, rounded up] */
+    int producers; /* so many threads advance, in mixed rounds, or produce [half, rounded up] */
+    int capacity;  /* so many items may be in the queue */
     uint64_t seed;
     double hang_seconds; /* without an invocation or a response [10]; it waits longer for threads
                             that the machine has not given their turn */
@@ -182,10 +187,13 @@ typedef struct evc_stress {
     void (*advance)(void *mine);
     uint64_t (*read)(void *mine);
     uint64_t (*await)(void *mine, uint64_t threshold);
+    int (*produce)(void *mine, uint64_t item); /* returns 0 if it gave up */
+    uint64_t (*consume)(void *mine);
     void (*declare)(void *mine, evc_calls *record);
     void (*work)(void *mine, evc_caller *worker, int number, evc_chance *chance);
     /* The results. */
-    int round; /* the last one, from 1 */
+    int round;     /* the last one, from 1 */
+    int undecided; /* so many rounds are not decided */
     uint64_t calls;
     double overlap, seconds;
     int is_kept; /* a wrong history is in the file `keep` */
@@ -194,7 +202,7 @@ typedef struct evc_stress {
     evc_calls record;
     evc_hand_ hand[EVC_CALLS_WORKERS];
     pthread_t thread[EVC_CALLS_WORKERS];
-    int E;
+    int object;
     char before_[128];
     uint64_t begun, ready, left, ends;
     char after_[128];
@@ -207,13 +215,13 @@ typedef struct evc_stress {
 /* The shapes. */
 
 static inline void evc_stress_advance_(evc_stress *s, evc_caller *w) {
-    evc_call_advance(w, s->E);
+    evc_call_advance(w, s->object);
     s->advance(s->mine);
     evc_return_done(w);
 }
 
 static inline uint64_t evc_stress_read_(evc_stress *s, evc_caller *w) {
-    evc_call_read(w, s->E);
+    evc_call_read(w, s->object);
     uint64_t count = s->read(s->mine);
     evc_return_number(w, count);
     return count;
@@ -221,7 +229,7 @@ static inline uint64_t evc_stress_read_(evc_stress *s, evc_caller *w) {
 
 /* Awaits a count, and returns what the count then is at least. */
 static inline uint64_t evc_stress_await_(evc_stress *s, evc_caller *w, uint64_t threshold) {
-    evc_call_await(w, s->E, threshold);
+    evc_call_await(w, s->object, threshold);
     uint64_t count = s->await(s->mine, threshold);
     if (count == EVC_STRESS_DONE)
         evc_return_done(w);
@@ -257,6 +265,37 @@ static inline void evc_stress_ring_(evc_stress *s, evc_hand_ *h) {
         if (evc_chance_below(&h->chance, 2))
             evc_spin_(evc_chance_below(&h->chance, 3000));
         evc_stress_advance_(s, h->worker);
+    }
+}
+
+static inline void evc_stress_produce_(evc_stress *s, evc_caller *w, uint64_t item) {
+    evc_call_produce(w, s->object, item);
+    if (s->produce(s->mine, item))
+        evc_return_done(w);
+    else
+        evc_return_timeout(w);
+}
+
+static inline void evc_stress_consume_(evc_stress *s, evc_caller *w) {
+    evc_call_consume(w, s->object);
+    uint64_t item = s->consume(s->mine);
+    if (item == EVC_STRESS_TIMEOUT)
+        evc_return_timeout(w);
+    else
+        evc_return_number(w, item);
+}
+
+/* Produces ten items, or consumes a share of all. */
+static inline void evc_stress_queue_(evc_stress *s, evc_hand_ *h) {
+    int others = s->threads - s->producers, place = h->number - s->producers;
+    int total = 10 * s->producers, produces = place < 0;
+    int calls = produces ? 10 : total * (place + 1) / others - total * place / others;
+    for (int k = 0; k < calls; k++) {
+        evc_chance_pause(&h->chance);
+        if (produces)
+            evc_stress_produce_(s, h->worker, (uint64_t)(100 * h->number + 100 + k));
+        else
+            evc_stress_consume_(s, h->worker);
     }
 }
 
@@ -308,6 +347,8 @@ static inline void *evc_stress_main_(void *given) {
             s->work(s->mine, h->worker, h->number, &h->chance);
         else if (s->shape == EVC_STRESS_RING)
             evc_stress_ring_(s, h);
+        else if (s->shape == EVC_STRESS_QUEUE)
+            evc_stress_queue_(s, h);
         else
             evc_stress_mixed_(s, h);
         __atomic_sub_fetch(&s->left, 1, __ATOMIC_ACQ_REL);
@@ -444,18 +485,25 @@ static inline void evc_stress_keep_(evc_stress *s, const char *text, size_t leng
     }
 }
 
-/* Finds the first wrong one of the histories that wait for a verdict, and keeps it. */
+/* Finds the first wrong one of the histories that wait for a verdict, and keeps it. Of those that
+ * are not decided the first of all rounds is kept. */
 static inline enum evc_stress_result evc_stress_find_(evc_stress *s) {
+    int undecided = s->undecided;
     for (int i = 0; i < s->waiting; i++) {
         size_t end = i + 1 < s->waiting ? s->starts[i + 1] : s->texts.length;
         const char *text = s->texts.bytes + s->starts[i];
         int status = s->judge(text, end - s->starts[i], s->note, sizeof s->note);
-        if (status == 0)
+        if (status == 0 || (status == 5 && s->undecided++ > 0))
+            continue;
+        evc_stress_keep_(s, text, end - s->starts[i]);
+        if (status == 5)
             continue;
         s->round -= s->waiting - 1 - i;
-        evc_stress_keep_(s, text, end - s->starts[i]);
         return status == 1 ? EVC_STRESS_REFUSED : EVC_STRESS_NO_VERDICT;
     }
+    s->note[0] = 0;
+    if (s->undecided > undecided)
+        return EVC_STRESS_PASSED;
     return evc_stress_no_(s, EVC_STRESS_NO_VERDICT, "the judge refuses them together only");
 }
 
@@ -532,7 +580,7 @@ static inline void evc_stress_defaults_(evc_stress *s) {
     s->keep = s->keep ? s->keep : "refused.calls";
     s->judge = s->judge ? s->judge : EVC_STRESS_JUDGE;
     s->batch = s->batch > 0 ? s->batch : s->judge == evc_stress_by_program ? 20 : 1;
-    s->round = s->waiting = s->is_kept = 0;
+    s->round = s->waiting = s->is_kept = s->undecided = 0;
     s->calls = s->overlaps = s->begun = s->ready = s->left = s->ends = 0;
     s->overlap = s->seconds = 0;
     s->note[0] = 0;
@@ -540,11 +588,32 @@ static inline void evc_stress_defaults_(evc_stress *s) {
     s->texts.file = -1;
 }
 
+/* Returns whether the functions are there that the threads call. */
+static inline int evc_stress_has_calls_(const evc_stress *s) {
+    if (s->work)
+        return 1;
+    if (s->shape == EVC_STRESS_QUEUE)
+        return s->produce && s->consume;
+    return s->advance && s->read && (s->await || s->shape == EVC_STRESS_MIXED);
+}
+
+static inline void evc_stress_declare_(evc_stress *s) {
+    char names[8 * EVC_CALLS_WORKERS] = "", *at = names;
+    for (int i = 0; i < s->producers && i < s->threads; i++)
+        at += sprintf(at, i ? " w%d" : "w%d", i);
+    if (s->declare)
+        s->declare(s->mine, &s->record);
+    else if (s->shape == EVC_STRESS_QUEUE)
+        s->object = evc_calls_buffer(&s->record, "B", (unsigned)s->capacity, names);
+    else
+        s->object = evc_calls_eventcount(&s->record, "E", 0);
+}
+
 /* Declares workers and objects, and starts the threads. */
 static inline enum evc_stress_result evc_stress_begin_(evc_stress *s) {
     char name[24];
     evc_stress_defaults_(s);
-    if (!s->work && !(s->advance && s->read && (s->await || s->shape == EVC_STRESS_MIXED)))
+    if (!evc_stress_has_calls_(s))
         return evc_stress_no_(s, EVC_STRESS_NO_RECORD, "there is nothing to call");
     s->starts = (size_t *)calloc((size_t)s->batch, sizeof *s->starts);
     evc_calls_open(&s->record, s->clock, s->file);
@@ -556,10 +625,7 @@ static inline enum evc_stress_result evc_stress_begin_(evc_stress *s) {
             return evc_stress_no_(s, EVC_STRESS_NO_RECORD, s->record.note);
         s->hand[i] = hand;
     }
-    if (s->declare)
-        s->declare(s->mine, &s->record);
-    else
-        s->E = evc_calls_eventcount(&s->record, "E", 0);
+    evc_stress_declare_(s);
     if (s->record.fault != EVC_CALLS_OK)
         return evc_stress_no_(s, EVC_STRESS_NO_RECORD, s->record.note);
     for (int i = 0; i < s->threads; i++)
@@ -588,6 +654,10 @@ static inline enum evc_stress_result evc_stress_run(evc_stress *s) {
             result = evc_stress_judge_(s);
         if (result == EVC_STRESS_PASSED)
             s->note[0] = 0;
+    }
+    if (result == EVC_STRESS_PASSED && s->undecided > 0) {
+        result = EVC_STRESS_NO_VERDICT;
+        snprintf(s->note, sizeof s->note, "%d rounds are not decided\n", s->undecided);
     }
     s->seconds = (double)(evc_nanoseconds_() - since) / 1e9;
     s->overlap = s->calls ? (double)s->overlaps / (double)s->calls : 0;

@@ -24,8 +24,9 @@
 //! function of yours.
 //!
 //! `Shape::Mixed`: half of the threads (`producers`) advance and read, the others read and await.
-//! `Shape::Ring`: each thread awaits its turn and advances, so every wake-up is needed. `run_with`
-//! is for other objects. The head of recorder/evc_stress.h says more; the two do the same.
+//! `Shape::Ring`: each thread awaits its turn and advances, so every wake-up is needed. `run_queue`
+//! is for queues, and `run_with` for other objects. The head of recorder/evc_stress.h says more; the
+//! two do the same.
 #![allow(dead_code)]
 
 use super::evc_calls::{self, Call, Clock, Fault, Idle, Record, Reply, Worker};
@@ -49,6 +50,17 @@ pub trait Eventcount: Send + Sync + 'static {
     fn await_count(&self, threshold: u64) -> Reply;
 }
 
+/// A bounded queue of yours.
+pub trait Queue: Send + Sync + 'static {
+    /// So many items may be in it.
+    const CAPACITY: u64;
+    fn fresh() -> Self;
+    /// Returns `Done`, or `Timeout` if it gave up.
+    fn produce(&self, item: u64) -> Reply;
+    /// Returns the item as a `Number`, or `Timeout`.
+    fn consume(&self) -> Reply;
+}
+
 #[derive(Clone, Copy, Debug, PartialEq, Eq)]
 pub enum Shape {
     Mixed,
@@ -62,6 +74,8 @@ pub enum Verdict {
     Linearizable(String),
     /// One is not: why.
     Refused(String),
+    /// One is not decided: why.
+    Undecided(String),
     /// There is no verdict: why.
     None(String),
 }
@@ -151,7 +165,7 @@ pub struct Stress {
     pub room: u32,
     /// So many rounds are judged together: 1 by the library, 20 by the program.
     pub batch: usize,
-    /// So many threads advance, if the shape is mixed; 0 means half of them, rounded up.
+    /// So many threads advance, in mixed rounds, or produce; 0 means half of them, rounded up.
     pub producers: usize,
     pub seed: u64,
     /// A round hangs after so long without an invocation or a response. It waits longer for threads
@@ -194,6 +208,7 @@ pub fn by_library(text: &str) -> Verdict {
     match super::evc::check_calls(text.as_bytes()) {
         Ok(ordered) => Verdict::Linearizable(ordered.remarks),
         Err(super::evc::Fault::Refused(note)) => Verdict::Refused(note),
+        Err(super::evc::Fault::NotDecided(note)) => Verdict::Undecided(note),
         Err(fault) => Verdict::None(format!("{fault}\n")),
     }
 }
@@ -217,6 +232,7 @@ pub fn by_program(text: &str) -> Verdict {
     match child.wait().ok().and_then(|it| it.code()) {
         Some(0) => Verdict::Linearizable(note),
         Some(1) => Verdict::Refused(note),
+        Some(5) => Verdict::Undecided(note),
         _ => Verdict::None(note),
     }
 }
@@ -227,6 +243,8 @@ struct Waiting {
     texts: Vec<String>,
     calls: usize,
     overlaps: usize,
+    /// How many rounds are not decided.
+    undecided: usize,
 }
 
 impl Waiting {
@@ -250,13 +268,35 @@ impl Waiting {
 impl Stress {
     /// Runs rounds on fresh eventcounts. After a hang the threads are still there: leave then.
     pub fn run<T: Eventcount>(&self) -> Result<Passed, Wrong> {
-        let (shape, threads) = (self.shape, self.threads);
-        let producers = if self.producers > 0 { self.producers } else { threads.div_ceil(2) };
+        let (shape, threads, producers) = (self.shape, self.threads, self.producers());
         let work = move |subject: &T, e, w: &mut Worker, number, chance: &mut Chance| match shape {
             Shape::Mixed => mixed(subject, e, w, number, producers, chance),
             Shape::Ring => ring(subject, e, w, number, threads, chance),
         };
         self.run_with(|record| record.eventcount("E", 0), T::fresh, work)
+    }
+
+    /// Runs rounds on fresh queues: the producers produce, ten items each with numbers of their own,
+    /// and the others consume as many. Either both may give up, or neither.
+    pub fn run_queue<T: Queue>(&self) -> Result<Passed, Wrong> {
+        let (threads, producers) = (self.threads, self.producers());
+        let declare = move |record: &mut Record| {
+            let names: Vec<_> = (0..producers).map(|it| format!("w{it}")).collect();
+            let names: Vec<_> = names.iter().map(String::as_str).collect();
+            record.buffer("B", T::CAPACITY, &names)
+        };
+        let work = move |subject: &T, b, w: &mut Worker, number, chance: &mut Chance| {
+            queue(subject, b, w, number, (producers, threads - producers), chance);
+        };
+        self.run_with(declare, T::fresh, work)
+    }
+
+    fn producers(&self) -> usize {
+        if self.producers > 0 {
+            self.producers
+        } else {
+            self.threads.div_ceil(2)
+        }
     }
 
     /// Runs rounds: what `declare` returns is passed to each thread's `work`, with a fresh object.
@@ -274,7 +314,7 @@ impl Stress {
             result = self.round(&first, round, &declare, fresh(), &threads, &mut waiting);
             let is_due = waiting.texts.len() >= self.batch || round == self.rounds;
             if result.is_ok() && is_due {
-                result = self.judged(round, &mut waiting.texts).map(drop);
+                result = self.judged(round, &mut waiting).map(drop);
             }
             if result.is_err() {
                 break;
@@ -283,7 +323,15 @@ impl Stress {
         threads.end();
         first.measured_again().map_err(Wrong::NoRecord)?;
         let overlap = waiting.overlaps as f64 / waiting.calls.max(1) as f64;
-        result.map(|()| Passed { rounds: self.rounds, calls: waiting.calls, overlap })
+        result?;
+        match waiting.undecided {
+            0 => Ok(Passed { rounds: self.rounds, calls: waiting.calls, overlap }),
+            rounds => {
+                let first = self.keep.display();
+                let note = format!("{rounds} rounds are not decided, the first is in {first}\n");
+                Err(Wrong::NoVerdict(note))
+            }
+        }
     }
 
     /// Lets the threads do one round, all at once.
@@ -344,10 +392,10 @@ impl Stress {
         stage: &Stage<T, O>,
         waiting: &mut Waiting,
     ) -> Result<(), Wrong> {
-        self.judged(round - 1, &mut waiting.texts)?;
+        self.judged(round - 1, waiting)?;
         let (text, pending) = record.text_so_far().map_err(Wrong::NoRecord)?;
         waiting.add(text.clone());
-        let remarks = self.judged(round, &mut waiting.texts)?;
+        let remarks = self.judged(round, waiting)?;
         let has_panicked = stage.panicked.load(SeqCst);
         let mut note: String = pending.iter().map(|it| format!("{it}\n")).collect();
         if note.is_empty() && !has_panicked {
@@ -360,24 +408,33 @@ impl Stress {
     }
 
     /// Judges the histories that wait for a verdict, the last of which is of this round. Returns
-    /// the judge's remarks.
-    fn judged(&self, round: usize, texts: &mut Vec<String>) -> Result<String, Wrong> {
-        let waiting = std::mem::take(texts);
-        if waiting.is_empty() {
+    /// the judge's remarks. Of those that are not decided the first of all rounds is kept.
+    fn judged(&self, round: usize, waiting: &mut Waiting) -> Result<String, Wrong> {
+        let (texts, undecided) = (std::mem::take(&mut waiting.texts), waiting.undecided);
+        if texts.is_empty() {
             return Ok(String::new());
         }
-        if let Verdict::Linearizable(remarks) = (self.judge)(&waiting.concat()) {
+        if let Verdict::Linearizable(remarks) = (self.judge)(&texts.concat()) {
             return Ok(remarks);
         }
-        for (place, text) in waiting.iter().enumerate() {
-            let of = round + 1 + place - waiting.len();
+        for (place, text) in texts.iter().enumerate() {
+            let of = round + 1 + place - texts.len();
             match (self.judge)(text) {
                 Verdict::Linearizable(_) => (),
+                Verdict::Undecided(note) => {
+                    waiting.undecided += 1;
+                    if waiting.undecided == 1 {
+                        self.kept(text, &note);
+                    }
+                }
                 Verdict::Refused(note) => {
                     return Err(Wrong::Refused(of, note.clone(), self.kept(text, &note)));
                 }
                 Verdict::None(note) => return Err(Wrong::NoVerdict(note)),
             }
+        }
+        if waiting.undecided > undecided {
+            return Ok(String::new());
         }
         Err(Wrong::NoVerdict("the judge refuses them together only\n".into()))
     }
@@ -621,5 +678,28 @@ fn ring<T: Eventcount>(
             (0..chance.below(1000)).for_each(|_| std::hint::spin_loop());
         }
         advance(subject, e, w);
+    }
+}
+
+/// Produces ten items, or consumes a share of all.
+fn queue<T: Queue>(
+    subject: &T,
+    b: evc_calls::Buffer,
+    w: &mut Worker,
+    number: usize,
+    (producers, consumers): (usize, usize),
+    chance: &mut Chance,
+) {
+    for k in 0..if number < producers { 10 } else { 0 } {
+        chance.pause();
+        let item = 100 * (number + 1) as u64 + k;
+        w.call(Call::Produce(b, item), || subject.produce(item));
+    }
+    if let Some(place) = number.checked_sub(producers) {
+        let until = |place| 10 * producers * place / consumers;
+        for _ in until(place)..until(place + 1) {
+            chance.pause();
+            w.call(Call::Consume(b), || subject.consume());
+        }
     }
 }

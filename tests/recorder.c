@@ -60,7 +60,7 @@ static int try_all(const char *clock, const char *out) {
     int X = evc_calls_cells(&calls, "X", 2), R = evc_calls_semaphore(&calls, "R", 1);
     int S = evc_calls_semaphore(&calls, "S", 2);
     evc_calls_both(&calls);
-    int D = evc_calls_database(&calls, "D", 7, "a b");
+    int D = evc_calls_database(&calls, "D", 7, "a b"), B = evc_calls_buffer(&calls, "B", 1, "a");
     const uint64_t values[7] = {1, 2, 3, 4, 5, 0, EVC_CALLS_NUMBER_MAX};
     evc_call_read(c, F), evc_call_advance(a, F), evc_return_done(a), evc_return_number(c, 4);
     evc_call_await(c, F, 9), evc_return_timeout(c);
@@ -74,6 +74,10 @@ static int try_all(const char *clock, const char *out) {
     evc_call_p(b, R), evc_return_timeout(b);
     evc_call_write(a, D, values), evc_return_done(a);
     evc_call_snapshot(c, D), evc_return_values(c, values);
+    evc_call_produce(a, B, 7), evc_return_done(a);
+    evc_call_produce(a, B, 8), evc_return_timeout(a);
+    evc_call_consume(b, B), evc_return_number(b, 7);
+    evc_call_consume(c, B), evc_return_timeout(c);
     evc_call_p(b, R);
     return says(evc_calls_write(&calls, out));
 }
@@ -154,6 +158,9 @@ static void try_names(void) {
     with_workers(2), declares("none writes", evc_calls_database(&calls, "D", 2, ""));
     with_workers(2), declares("unknown writer", evc_calls_database(&calls, "D", 2, "w0 w2"));
     with_workers(2), declares("writer twice", evc_calls_database(&calls, "D", 2, "w0 w0"));
+    with_workers(2), declares("buffer", evc_calls_buffer(&calls, "B", 256, "w1"));
+    with_workers(2), declares("none consumes", evc_calls_buffer(&calls, "B", 2, "w0 w1"));
+    with_workers(2), declares("257 items", evc_calls_buffer(&calls, "B", 257, "w0"));
     declares("300 cells", many_cells());
     declares("33 eventcounts", many_eventcounts());
     declares("late worker", late_worker());
@@ -170,6 +177,7 @@ static int try_wrong(int number, const char *out) {
     evc_caller *a = evc_calls_worker(&calls, "a", 10), *b = evc_calls_worker(&calls, "b", 10);
     int F = evc_calls_eventcount(&calls, "E", 0), X = evc_calls_cells(&calls, "X", 2);
     int S = evc_calls_semaphore(&calls, "S", 1), D = evc_calls_database(&calls, "D", 2, "b");
+    int B = evc_calls_buffer(&calls, "B", 2, "b");
     const uint64_t values[2] = {0, 0}, large[2] = {0, EVC_CALLS_NUMBER_MAX + 1};
     evc_call_advance(a, F), evc_return_done(a);
     switch (number) {
@@ -188,6 +196,9 @@ static int try_wrong(int number, const char *out) {
     case 12: evc_call_snapshot(a, D), evc_return_number(a, 0); break;
     case 13: evc_call_read(a, F), evc_return_values(a, values); break;
     case 14: evc_call_pboth(a, S, S); break;
+    case 15: evc_call_produce(a, B, 7); break;
+    case 16: evc_call_consume(b, B); break;
+    case 17: evc_call_consume(a, B), evc_return_done(a); break;
     default: evc_call_advance(NULL, F), evc_return_done(NULL); break;
     }
     evc_call_read(b, F), evc_return_number(b, 1);

@@ -42,6 +42,7 @@ fn try_all(word: &str, out: &str) -> Result<(), Fault> {
     let s = record.semaphore("S", 2)?;
     record.both()?;
     let d = record.database("D", 7, &["a", "b"])?;
+    let buffer = record.buffer("B", 1, &["a"])?;
     let values = [1, 2, 3, 4, 5, 0, NUMBER_MAX];
     c.invoke(Call::Read(e));
     a.call(Call::Advance(e), || Reply::Done);
@@ -60,6 +61,10 @@ fn try_all(word: &str, out: &str) -> Result<(), Fault> {
     b.call(Call::P(r), || Reply::Timeout);
     a.call(Call::Write(d, &values), || Reply::Done);
     c.call(Call::Snapshot(d), || Reply::Values(values.to_vec()));
+    a.call(Call::Produce(buffer, 7), || Reply::Done);
+    a.call(Call::Produce(buffer, 8), || Reply::Timeout);
+    b.call(Call::Consume(buffer), || Reply::Number(7));
+    c.call(Call::Consume(buffer), || Reply::Timeout);
     b.invoke(Call::P(r));
     says(record.write(out))
 }
@@ -134,7 +139,9 @@ fn try_writers() -> Result<(), Fault> {
     for (what, named) in writers {
         declares(what, 2, |it| it.database("D", 2, named).map(|_| ()))?;
     }
-    Ok(())
+    declares("buffer", 2, |it| it.buffer("B", 256, &["w1"]).map(|_| ()))?;
+    declares("none consumes", 2, |it| it.buffer("B", 2, &["w0", "w1"]).map(|_| ()))?;
+    declares("257 items", 2, |it| it.buffer("B", 257, &["w0"]).map(|_| ()))
 }
 
 fn try_places() -> Result<(), Fault> {
@@ -158,6 +165,7 @@ fn try_wrong(number: usize, out: &str) -> Result<(), Fault> {
     let (mut a, mut b) = (record.worker("a", 10)?, record.worker("b", 10)?);
     let (e, x) = (record.eventcount("E", 0)?, record.cells("X", 2)?);
     let (s, d) = (record.semaphore("S", 1)?, record.database("D", 2, &["b"])?);
+    let buffer = record.buffer("B", 2, &["b"])?;
     a.call(Call::Advance(e), || Reply::Done);
     match number {
         0 => {
@@ -175,6 +183,9 @@ fn try_wrong(number: usize, out: &str) -> Result<(), Fault> {
         12 => drop(a.call(Call::Snapshot(d), || Reply::Number(0))),
         13 => drop(a.call(Call::Read(e), || Reply::Values(vec![0, 0]))),
         14 => a.invoke(Call::PBoth(s, s)),
+        15 => a.invoke(Call::Produce(buffer, 7)),
+        16 => b.invoke(Call::Consume(buffer)),
+        17 => drop(a.call(Call::Consume(buffer), || Reply::Done)),
         _ => (),
     }
     b.call(Call::Read(e), || Reply::Number(1));

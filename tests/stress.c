@@ -6,8 +6,11 @@
  * one early), kept (a reader keeps what it saw), wake (it wakes one of all that sleep), abort (it
  * aborts in an advance of the third round, and the file x.record has that round); unkept (lost, and
  * its history can't be written); or ticket and lock, other objects with bugs; or full, misused,
- * misnamed, silent, outside, faults of the test itself: outside hangs between its calls. SHAPE is
- * mixed or ring. The judge is the library if evc.h was included before this. */
+ * misnamed, silent, outside, unsure, faults of the test itself: outside hangs between its calls,
+ * unsure puts one value into a cell again and again, so that no round is decided. SHAPE is
+ * mixed or ring, or queue: then KIND is a ring of slots, right or with a bug: hasty (it publishes a
+ * slot before that is written), shared (two producers have one ticket), wide (one slot too many).
+ * The judge is the library if evc.h was included before this. */
 #include "../recorder/evc_record.h"
 #include "../recorder/evc_stress.h"
 
@@ -75,10 +78,64 @@ static uint64_t await(void *mine, uint64_t threshold) {
     return is_kind("early") ? EVC_STRESS_DONE : load(&count);
 }
 
+/* A ring: the slot of ticket t is free when its turn is t, and has an item when that is t + 1. */
+#define CAPACITY 2
+static uint64_t turns[CAPACITY + 1], items[CAPACITY + 1], produced, consumed;
+
+static uint64_t slots(void) { return CAPACITY + (uint64_t)is_kind("wide"); }
+
+static void fresh_ring(void *mine) {
+    (void)mine;
+    for (uint64_t i = 0; i < slots(); i++) {
+        store(&turns[i], i);
+        store(&items[i], 0);
+    }
+    store(&produced, 0);
+    store(&consumed, 0);
+}
+
+/* Draws a ticket when its slot has its turn. Returns 0 if that may not come, as items were lost. */
+static int draw(uint64_t *next, uint64_t ahead, uint64_t *ticket) {
+    for (int looks = 0; !is_kind("shared") || looks < 30; looks++) {
+        *ticket = load(next);
+        if (load(&turns[*ticket % slots()]) != *ticket + ahead)
+            sched_yield();
+        else if (is_kind("shared") && ahead == 0)
+            return sched_yield(), store(next, *ticket + 1), 1;
+        else if (__sync_bool_compare_and_swap(next, *ticket, *ticket + 1))
+            return 1;
+    }
+    return 0;
+}
+
+static int produce(void *mine, uint64_t item) {
+    uint64_t ticket;
+    (void)mine;
+    if (!draw(&produced, 0, &ticket))
+        return 0;
+    if (is_kind("hasty"))
+        store(&turns[ticket % slots()], ticket + 1), sched_yield();
+    store(&items[ticket % slots()], item);
+    if (!is_kind("hasty"))
+        store(&turns[ticket % slots()], ticket + 1);
+    return 1;
+}
+
+static uint64_t consume(void *mine) {
+    uint64_t ticket;
+    (void)mine;
+    if (!draw(&consumed, 1, &ticket))
+        return EVC_STRESS_TIMEOUT;
+    uint64_t item = load(&items[ticket % slots()]);
+    store(&turns[ticket % slots()], ticket + slots());
+    return item;
+}
+
 static void declare(void *mine, evc_calls *record) {
     (void)mine;
-    object = is_kind("ticket") ? evc_calls_sequencer(record, "T")
-                               : evc_calls_semaphore(record, is_kind("misnamed") ? "p" : "S", 1);
+    object = is_kind("unsure")   ? evc_calls_cells(record, "X", 1)
+             : is_kind("ticket") ? evc_calls_sequencer(record, "T")
+                                 : evc_calls_semaphore(record, is_kind("misnamed") ? "p" : "S", 1);
 }
 
 static void hold(evc_caller *w, evc_chance *chance) {
@@ -92,6 +149,15 @@ static void hold(evc_caller *w, evc_chance *chance) {
     evc_call_v(w, object);
     store(&holds, 0);
     evc_return_done(w);
+}
+
+static void put_and_get(evc_caller *w) {
+    evc_call_put(w, object, 0, 1);
+    store(&count, 1);
+    sched_yield();
+    evc_return_done(w);
+    evc_call_get(w, object, 0);
+    evc_return_number(w, load(&count));
 }
 
 static void work(void *mine, evc_caller *w, int number, evc_chance *chance) {
@@ -108,19 +174,23 @@ static void work(void *mine, evc_caller *w, int number, evc_chance *chance) {
             evc_return_number(w, add(&count, 1));
         } else if (is_kind("misused"))
             evc_call_ticket(w, object);
+        else if (is_kind("unsure"))
+            put_and_get(w);
         else
             hold(w, chance);
     }
 }
 
 int main(int words, char **word) {
-    static const char *const works[] = {"ticket",   "lock",   "full",   "misused",
-                                        "misnamed", "silent", "outside"};
+    static const char *const works[] = {"ticket",   "lock",   "full",    "misused",
+                                        "misnamed", "silent", "outside", "unsure"};
     static evc_stress s;
     if (words != 5)
         return 2;
     kind = word[1];
-    s.shape = strcmp(word[2], "ring") == 0 ? EVC_STRESS_RING : EVC_STRESS_MIXED;
+    s.shape = strcmp(word[2], "ring") == 0    ? EVC_STRESS_RING
+              : strcmp(word[2], "queue") == 0 ? EVC_STRESS_QUEUE
+                                              : EVC_STRESS_MIXED;
     s.clock = strcmp(word[3], "tsc") == 0         ? EVC_CALLS_TSC
               : strcmp(word[3], "monotonic") == 0 ? EVC_CALLS_MONOTONIC
                                                   : EVC_CALLS_COUNTER;
@@ -128,10 +198,13 @@ int main(int words, char **word) {
     s.hang_seconds = is_kind("wake") || is_kind("outside") ? 2 : 20;
     s.file = is_kind("abort") ? "x.record" : NULL;
     s.keep = is_kind("unkept") ? "nowhere/refused.calls" : NULL;
-    s.fresh = fresh;
+    s.fresh = s.shape == EVC_STRESS_QUEUE ? fresh_ring : fresh;
     s.advance = advance;
     s.read = read_count;
     s.await = await;
+    s.capacity = CAPACITY;
+    s.produce = produce;
+    s.consume = consume;
     for (size_t i = 0; i < sizeof works / sizeof *works; i++)
         if (is_kind(works[i])) {
             s.declare = declare;

@@ -1,6 +1,7 @@
 //! tests/stress.rs: what tests/run-recorder asks of recorder/evc_stress.rs, by the words of
 //! tests/stress.c: KIND SHAPE CLOCK ROUNDS. KIND is right, lost, early, kept, wake, abort, unkept,
-//! ticket, lock, full, misused, misnamed, silent or outside; or panics: an advance of the third round does.
+//! ticket, lock, full, misused, misnamed, silent, outside or unsure; or panics: an advance of the third round does.
+//! With the shape queue it is right, hasty, shared or wide.
 #[cfg(libevc)]
 #[path = "../library/evc.rs"]
 mod evc;
@@ -9,8 +10,8 @@ mod evc_calls;
 #[path = "../recorder/evc_stress.rs"]
 mod evc_stress;
 
-use evc_calls::{Call, Clock, Fault, Record, Reply, Semaphore, Sequencer, Worker};
-use evc_stress::{Chance, Eventcount, Passed, Shape, Stress, Wrong};
+use evc_calls::{Call, Cells, Clock, Fault, Record, Reply, Semaphore, Sequencer, Worker};
+use evc_stress::{Chance, Eventcount, Passed, Queue, Shape, Stress, Wrong};
 use std::cell::Cell;
 use std::sync::atomic::{AtomicU64, Ordering::SeqCst};
 use std::sync::{Condvar, Mutex, OnceLock};
@@ -102,9 +103,80 @@ impl Eventcount for Count {
     }
 }
 
-fn declare(record: &mut Record) -> Result<(Sequencer, Semaphore), Fault> {
+/// The slot of ticket t is free when its turn is t, and has an item when that is t + 1.
+struct Ring {
+    slots: Vec<(AtomicU64, AtomicU64)>,
+    produced: AtomicU64,
+    consumed: AtomicU64,
+}
+
+impl Ring {
+    /// Draws a ticket when its slot has its turn. Returns none if that may not come, as items were
+    /// lost.
+    fn draw(&self, next: &AtomicU64, ahead: u64) -> Option<u64> {
+        let mut looks = 0;
+        while !is("shared") || looks < 30 {
+            let ticket = next.load(SeqCst);
+            if self.slot(ticket).0.load(SeqCst) != ticket + ahead {
+                yield_now();
+            } else if is("shared") && ahead == 0 {
+                yield_now();
+                next.store(ticket + 1, SeqCst);
+                return Some(ticket);
+            } else if next.compare_exchange(ticket, ticket + 1, SeqCst, SeqCst).is_ok() {
+                return Some(ticket);
+            }
+            looks += 1;
+        }
+        None
+    }
+
+    /// Returns the turn and the item.
+    fn slot(&self, ticket: u64) -> &(AtomicU64, AtomicU64) {
+        &self.slots[ticket as usize % self.slots.len()]
+    }
+}
+
+impl Queue for Ring {
+    const CAPACITY: u64 = 2;
+
+    fn fresh() -> Self {
+        let slots = Self::CAPACITY + is("wide") as u64;
+        Ring {
+            slots: (0..slots).map(|it| (AtomicU64::new(it), AtomicU64::new(0))).collect(),
+            produced: AtomicU64::new(0),
+            consumed: AtomicU64::new(0),
+        }
+    }
+
+    fn produce(&self, item: u64) -> Reply {
+        let Some(ticket) = self.draw(&self.produced, 0) else { return Reply::Timeout };
+        let (turn, place) = self.slot(ticket);
+        if is("hasty") {
+            turn.store(ticket + 1, SeqCst);
+            yield_now();
+        }
+        place.store(item, SeqCst);
+        if !is("hasty") {
+            turn.store(ticket + 1, SeqCst);
+        }
+        Reply::Done
+    }
+
+    fn consume(&self) -> Reply {
+        let Some(ticket) = self.draw(&self.consumed, 1) else { return Reply::Timeout };
+        let (turn, place) = self.slot(ticket);
+        let item = place.load(SeqCst);
+        turn.store(ticket + self.slots.len() as u64, SeqCst);
+        Reply::Number(item)
+    }
+}
+
+type Objects = (Sequencer, Semaphore, Cells);
+
+fn declare(record: &mut Record) -> Result<Objects, Fault> {
     let name = if is("misnamed") { "p" } else { "S" };
-    Ok((record.sequencer("T")?, record.semaphore(name, 1)?))
+    Ok((record.sequencer("T")?, record.semaphore(name, 1)?, record.cells("X", 1)?))
 }
 
 fn hold(it: &Count, s: Semaphore, w: &mut Worker, chance: &mut Chance) {
@@ -123,7 +195,16 @@ fn hold(it: &Count, s: Semaphore, w: &mut Worker, chance: &mut Chance) {
     });
 }
 
-fn work(it: &Count, of: (Sequencer, Semaphore), w: &mut Worker, me: usize, chance: &mut Chance) {
+fn put_and_get(it: &Count, x: Cells, w: &mut Worker) {
+    w.call(Call::Put(x, 0, 1), || {
+        it.count.store(1, SeqCst);
+        yield_now();
+        Reply::Done
+    });
+    w.call(Call::Get(x, 0), || Reply::Number(it.count.load(SeqCst)));
+}
+
+fn work(it: &Count, of: Objects, w: &mut Worker, me: usize, chance: &mut Chance) {
     for k in 0..if is("full") { 100 } else { 8 } {
         if is("silent") {
             return;
@@ -138,6 +219,8 @@ fn work(it: &Count, of: (Sequencer, Semaphore), w: &mut Worker, me: usize, chanc
             w.call(Call::Ticket(of.0), || Reply::Number(add(&it.count, true)));
         } else if is("misused") {
             w.call(Call::Ticket(of.0), || Reply::Done);
+        } else if is("unsure") {
+            put_and_get(it, of.2, w);
         } else {
             hold(it, of.1, w, chance);
         }
@@ -154,6 +237,7 @@ fn status(result: Result<Passed, Wrong>) -> i32 {
             return 0;
         }
         Err(Wrong::NoRecord(fault)) => eprintln!("no record: round 0\n{fault}"),
+        Err(Wrong::NoVerdict(note)) => eprint!("no verdict: round 0\n{note}"),
         Err(wrong) => eprintln!("{wrong}"),
     }
     match result {
@@ -183,8 +267,10 @@ fn main() {
         },
         ..Stress::default()
     };
-    let works = ["ticket", "lock", "full", "misused", "misnamed", "silent", "outside"];
-    let result = if works.contains(&kind.as_str()) {
+    let works = ["ticket", "lock", "full", "misused", "misnamed", "silent", "outside", "unsure"];
+    let result = if shape == "queue" {
+        stress.run_queue::<Ring>()
+    } else if works.contains(&kind.as_str()) {
         stress.run_with(declare, Count::fresh, work)
     } else {
         stress.run::<Count>()

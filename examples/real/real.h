@@ -25,7 +25,14 @@ typedef struct real_object {
     uint64_t (*await)(void *mine, uint64_t threshold); /* NULL where it could wait for ever */
     void (*declare)(void *mine, evc_calls *record);
     void (*work)(void *mine, evc_caller *worker, int number, evc_chance *chance);
+    int capacity;
+    int (*produce)(void *mine, uint64_t item);
+    uint64_t (*consume)(void *mine);
 } real_object;
+
+/* A queue. `producers` is 0 for half of the threads. */
+#define REAL_QUEUE(name, kind, choice, producers, capacity, produce, consume)                      \
+    { name, kind, choice, producers, NULL, NULL, NULL, NULL, NULL, capacity, produce, consume }
 
 static int chosen, threads;
 
@@ -73,6 +80,8 @@ static inline int real_main(int words, char **word, const real_object *objects,
             return fprintf(stderr, "%s takes no turns\n", objects->name), 2;
         s.shape = EVC_STRESS_RING;
     }
+    if (objects->produce)
+        s.shape = EVC_STRESS_QUEUE;
     s.hang_seconds = 2;
     s.producers = objects->producers;
     snprintf(keep, sizeof keep, "%.50s.calls", objects->name);
@@ -83,6 +92,9 @@ static inline int real_main(int words, char **word, const real_object *objects,
     s.await = objects->await;
     s.declare = objects->declare;
     s.work = objects->work;
+    s.capacity = objects->capacity;
+    s.produce = objects->produce;
+    s.consume = objects->consume;
     chosen = objects->choice;
     int status = evc_stress_says(&s, evc_stress_run(&s));
     fflush(stderr);

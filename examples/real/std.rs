@@ -1,13 +1,14 @@
 //! std.rs: eventcounts over Rust's std: an atomic, a Mutex with a Condvar, an RwLock, and
-//! `thread::park`.
+//! `thread::park`; and `sync_channel`, a queue.
 //!
 //!     rustc -O --edition 2021 --cfg libevc std.rs -L FOLDER_OF_LIBEVC -l static=evc
 //!     std                                                   lists its objects
 //!     std OBJECT [THREADS [ROUNDS [CLOCK [SEED [SHAPE]]]]]  tries one
 //!
 //! CLOCK is counter, tsc or monotonic. SHAPE is mixed or ring. Bugs: `rust_load_store` raises by a
-//! load and a store, `rust_condvar_one` wakes one, which may be one that waits for more. The status
-//! is 0 if it passed, 1 if it is refused, 5 if it hung.
+//! load and a store, `rust_condvar_one` wakes one, which may be one that waits for more, and
+//! `rust_sync_channel_large` has room for one item more. The status is 0 if it passed, 1 if it is
+//! refused, 5 if it hung.
 #[cfg(libevc)]
 #[path = "../../library/evc.rs"]
 mod evc;
@@ -17,8 +18,9 @@ mod evc_calls;
 mod evc_stress;
 
 use evc_calls::{Clock, Reply};
-use evc_stress::{Eventcount, Passed, Shape, Stress, Wrong};
+use evc_stress::{Eventcount, Passed, Queue, Shape, Stress, Wrong};
 use std::sync::atomic::{AtomicU64, Ordering::SeqCst};
+use std::sync::mpsc::{sync_channel, Receiver, SyncSender};
 use std::sync::{Condvar, Mutex, RwLock};
 use std::thread::{self, Thread};
 use std::time::Duration;
@@ -133,16 +135,50 @@ impl Eventcount for Parked {
     }
 }
 
+/// A channel, whose receiver is shared under a mutex.
+struct Channel<const TRIES: bool, const MORE: usize>(SyncSender<u64>, Mutex<Receiver<u64>>);
+
+impl<const TRIES: bool, const MORE: usize> Queue for Channel<TRIES, MORE> {
+    const CAPACITY: u64 = 3;
+
+    fn fresh() -> Self {
+        let (sender, receiver) = sync_channel(Self::CAPACITY as usize + MORE);
+        Channel(sender, Mutex::new(receiver))
+    }
+    fn produce(&self, item: u64) -> Reply {
+        match TRIES {
+            true => look(|| self.0.try_send(item).ok().map(|()| Reply::Done)),
+            false => self.0.send(item).map_or(Reply::Timeout, |()| Reply::Done),
+        }
+    }
+    fn consume(&self) -> Reply {
+        match TRIES {
+            true => look(|| self.1.lock().unwrap().try_recv().ok().map(Reply::Number)),
+            false => self.1.lock().unwrap().recv().map_or(Reply::Timeout, Reply::Number),
+        }
+    }
+}
+
+/// Tries some times, and then gives up.
+fn look(mut make: impl FnMut() -> Option<Reply>) -> Reply {
+    let mut looks = 0..20;
+    let tried = looks.find_map(|_| make().or_else(|| (thread::yield_now(), None).1));
+    tried.unwrap_or(Reply::Timeout)
+}
+
 type Run = fn(&Stress) -> Result<Passed, Wrong>;
 
 /// Each object, with its kind. It has a ring if threads can take turns on it: no await gives up.
-const OBJECTS: [(&str, &str, Run); 6] = [
+const OBJECTS: [(&str, &str, Run); 9] = [
     ("right", "rust_atomic ring", Stress::run::<Atomic<false>>),
     ("right", "rust_condvar ring", Stress::run::<Guarded<false>>),
     ("right", "rust_rwlock ring", Stress::run::<Shared>),
     ("right", "rust_park ring", Stress::run::<Parked>),
+    ("right", "rust_sync_channel", Stress::run_queue::<Channel<false, 0>>),
+    ("right", "rust_sync_channel_try", Stress::run_queue::<Channel<true, 0>>),
     ("bug", "rust_load_store", Stress::run::<Atomic<true>>),
     ("bug", "rust_condvar_one ring", Stress::run::<Guarded<true>>),
+    ("bug", "rust_sync_channel_large", Stress::run_queue::<Channel<false, 1>>),
 ];
 
 /// Says what came out, and returns the status for it.

@@ -19,7 +19,7 @@ def try_all(program, folder, clock):
     found, right = lines_of(os.path.join(folder, "x.calls")), WHOLE.split("\n")
     if clock != "counter":
         # (an invocation is dated back: events of different workers may be in another order)
-        found, right = ([*it[:12], *sorted_by_worker(it[12:-2]), *it[-2:]] for it in (found, right))
+        found, right = ([*it[:13], *sorted_by_worker(it[13:-2]), *it[-2:]] for it in (found, right))
     need(found == right, f"it wrote {found}")
 
 

@@ -69,6 +69,30 @@ p0 returns done
 p1 returns 3
 end
 """
+QUEUE = """{:process 0, :type :invoke, :f :enqueue, :value 3}
+{:process 1, :type :invoke, :f :dequeue, :value nil}
+{:process 0, :type :ok, :f :enqueue, :value 3}
+{:process 1, :type :ok, :f :dequeue, :value 3}
+{:process 1, :type :invoke, :f :enqueue, :value 4}
+{:process 1, :type :fail, :f :enqueue, :value 4}
+{:process 0, :type :invoke, :f :dequeue, :value nil}
+{:process 0, :type :fail, :f :dequeue, :value nil}
+"""
+OF_QUEUE = """evc-calls 1
+limit 281474976710655
+workers p0 p1c p1 p0c
+buffer B 5 produce p0 p1 consume p1c p0c
+run
+p0 calls produce B 3
+p1c calls consume B
+p0 returns done
+p1c returns 3
+p1 calls produce B 4
+p1 returns timeout
+p0c calls consume B
+p0c returns timeout
+end
+"""
 NO_EVENTS = [
     ("{:process 0", "the EDN ends within {"),
     ('"', 'this is no EDN: "'),
@@ -86,6 +110,12 @@ def try_events(folder):
     need(said.stdout == OF_EDN, said.stdout + said.stderr)
     said = converted(folder, "from-json", "--register", "X", text=REGISTER)
     need(said.stdout == OF_REGISTER, said.stdout + said.stderr)
+    said = converted(folder, "from-edn", "--queue", "B", "--room", "B=5", text=QUEUE)
+    need(said.stdout == OF_QUEUE, said.stdout + said.stderr)
+    said = converted(folder, "edn", "--queue", "B", text=OF_QUEUE)
+    # (a process that was split is two)
+    back, right = (re.sub(r":process \d", "", it) for it in (said.stdout, QUEUE))
+    need(back == right, said.stdout + said.stderr)
     for text, note in NO_EVENTS:
         said = converted(folder, "from-edn", text=text)
         answer = (said.returncode, said.stdout, said.stderr)

@@ -87,6 +87,22 @@ def try_presses(folder, words):
     need((said.returncode, said.stderr) == (1, b"line 12: wrong reply, right is 2\n"), f"{said}")
 
 
+# What faults.c says.
+FAULTS = """a step: no fault
+a step of worker 7: unknown worker
+17 workers: too many workers
+a worker p: reserved word
+a sequencer 9: bad name
+a second E: name taken
+a counter: bad line
+a worker after a step: declared too late
+a line of two lines: bad line
+4194304 steps: too large
+10000 steps with little memory: no memory
+a file in no folder: not written
+"""
+
+
 def try_other_examples(folder, count, judge):
     """Tries the examples of monitors and of steps, right and with their bugs."""
     source = os.path.join(TOP, "recorder")
@@ -95,6 +111,8 @@ def try_other_examples(folder, count, judge):
         words = [compiler, "-std=c11", "-O2", "-pthread", os.path.join(source, "example_monitor.c")]
         runs = [(["1"], "right"), (["1", "lost"], "wrong")]
         count.tried("the example of a monitor", try_shown, folder, judge, "monitored", words, runs)
+        words = [compiler, "-std=c11", "-pthread", os.path.join(source, "faults.c")]
+        count.tried("each error of steps", try_shown, folder, judge, "faults", words, [([], FAULTS)])
     if shutil.which("rustc"):
         words = ["rustc", "--edition", "2021", "-O", os.path.join(source, "example_monitor.rs")]
         runs = [(["1"], "right"), (["1", "lost"], "REFUSED")]

@@ -36,7 +36,7 @@ def try_stress(program, folder, judge, words, status, said, note=""):
     first, _, rest = (found + rest).partition("\n")
     need(re.search(note, rest), f"the note is {rest}")
     kept = os.path.join(folder, "refused.calls")
-    need(os.path.exists(kept) == (status in (1, 5, 6)), "a history is kept, or none is")
+    need(os.path.exists(kept) == (status in (1, 3, 5, 6)), "a history is kept, or none is")
     if status in (1, 5, 6):
         calls_of(kept)
         judge.says(kept, status != 1)
@@ -55,12 +55,14 @@ RIGHT = [
     ("right ring counter 20", 0, "passed", ""),
     ("right mixed tsc 40", 0, "passed", ""),
     ("right ring monotonic 20", 0, "passed", ""),
+    ("right queue counter 20", 0, "passed", ""),
 ]
 STRESSES = [
     ("full mixed counter 10", 2, "no record", "^full: worker w.: no room for another call"),
     ("misused mixed counter 10", 2, "no record", "^misused: worker"),
     ("misnamed mixed counter 10", 2, "no record", "^reserved word: p"),
     ("silent mixed counter 10", 0, "passed", "^weak: the calls hardly overlapped"),
+    ("unsure mixed counter 10", 3, "no verdict", r"^\d+ rounds are not decided"),
     ("outside mixed counter 10", 5, "HUNG", "^no call is pending: a thread hangs between its calls"),
 ]
 # (each is found in one of its first rounds; the others are needed on a busy machine)
@@ -71,9 +73,12 @@ FOUND = [
     ("kept mixed counter 1000", 1, "REFUSED"),
     ("ticket mixed counter 1000", 1, "REFUSED"),
     ("lock mixed counter 1000", 1, "REFUSED"),
+    ("hasty queue counter 1000", 1, "REFUSED", r"had returned \d+, but only \d+ produces? called by then can have put"),
+    ("shared queue counter 1000", 1, "REFUSED", "had been put in|had returned done|was produced before"),
+    ("wide queue counter 1000", 1, "REFUSED", "(with|and) room for 2"),
 ]
 PANICKED = [("panics mixed counter 10", 6, "PANICKED", r"line \d+: w\d calls advance E has not returned")]
-BY_PROGRAM = [RIGHT[0], FOUND[0], FOUND[1]]
+BY_PROGRAM = [RIGHT[0], RIGHT[-1], FOUND[0], FOUND[1]]
 
 
 def try_asked(what, program, tools, folder, count, judge, asked, is_whole):

@@ -12,6 +12,7 @@ semaphore R 1 use a b c
 semaphore S 2 use a b c
 both use a b c
 database D 7 write a b read c
+buffer B 1 produce a consume b c
 from E 3
 run
 c calls read E
@@ -42,6 +43,14 @@ a calls write D 1 2 3 4 5 0 999999999999999999
 a returns done
 c calls snapshot D
 c returns 1 2 3 4 5 0 999999999999999999
+a calls produce B 7
+a returns done
+a calls produce B 8
+a returns timeout
+b calls consume B
+b returns 7
+c calls consume B
+c returns timeout
 b calls p R
 end
 """
@@ -75,6 +84,9 @@ all write: 0 |out of range: D
 none writes: 0 |out of range: D
 unknown writer: 0 |out of range: D
 writer twice: 0 |out of range: D
+buffer: 1 |
+none consumes: 0 |out of range: B
+257 items: 0 |out of range: B
 300 cells: 0 |too many: C
 33 eventcounts: 0 |too many: E32
 late worker: 0 |declared too late: b
@@ -85,7 +97,7 @@ no room: 0 |out of range: a
 
 OBJECT = "a: a call on an object that does not have it"
 NUMBER = "a number above 999999999999999999"
-ROLE = "a writer's snapshot or a reader's write"
+ROLE = "a call of the other role"
 REPLY = "a: a reply that does not suit the call"
 
 # Each wrong use: the worker and what is said, and the call that stays pending, if any.
@@ -105,6 +117,9 @@ WRONG = [
     (REPLY, "a calls snapshot D"),
     (REPLY, "a calls read E"),
     (OBJECT, None),
+    (f"a: {ROLE}", None),
+    (f"b: {ROLE}", None),
+    (REPLY, "a calls consume B"),
     (None, None),
 ]
 ONLY_IN_C = (2, 3, 4)  # the types of Rust have no such use

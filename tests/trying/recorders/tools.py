@@ -61,7 +61,7 @@ def lines_of(path):
 
 
 CALL = re.compile(
-    r"(\w+) calls ((advance|read|ticket|p|v|snapshot) \w+|await \w+ \d+|put \w+\[\d+\] \d+"
+    r"(\w+) calls ((advance|read|ticket|p|v|snapshot|consume) \w+|(await|produce) \w+ \d+|put \w+\[\d+\] \d+"
     r"|get \w+\[\d+\]|pboth \w+ \w+|write \w+( \d+)+)"
 )
 RETURN = re.compile(r"(\w+) returns (done|timeout|\d+( \d+)*)")
