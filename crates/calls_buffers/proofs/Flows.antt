@@ -30,6 +30,16 @@ abbrev pub taken_items : List Call → List ℕ
 taken_items [] = []
 taken_items (c ∷ cs) = taken_by c.op c.reply ++ taken_items cs
 
+pub put_append : (xs ys : List Call) → put_items (xs ++ ys) ≡ put_items xs ++ put_items ys
+put_append [] ys = refl
+put_append (c ∷ xs) ys = ap (λ zs. put_by c.op c.reply ++ zs) (put_append xs ys)
+    ∙ sym (append_assoc (put_by c.op c.reply) (put_items xs) (put_items ys))
+
+pub taken_append : (xs ys : List Call) → taken_items (xs ++ ys) ≡ taken_items xs ++ taken_items ys
+taken_append [] ys = refl
+taken_append (c ∷ xs) ys = ap (λ zs. taken_by c.op c.reply ++ zs) (taken_append xs ys)
+    ∙ sym (append_assoc (taken_by c.op c.reply) (taken_items xs) (taken_items ys))
+
 pub run_first : (n : ℕ) (items : List ℕ) (xs ys : List Call) → IsQueueRun n items (xs ++ ys)
     → IsQueueRun n items xs
 run_first n items [] ys h = tt

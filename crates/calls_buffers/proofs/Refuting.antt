@@ -1,7 +1,7 @@
 -- What shows a fault has no linearization.
 use Rattle.std.proofs.Common.{◌≡◌, ℕ, ◌+◌, ◌<◌, ◌≤◌, inl, inr, Bool, true, ◌&&◌, nat_le}
 use Rattle.std.proofs.Common.{List, [], ◌∷◌, ◌++◌, refl, ap, sym, ◌∙◌, subst, arith}
-use Rattle.std.proofs.Common.{Some, count_by, append_assoc, append-nil}
+use Rattle.std.proofs.Common.{Some, count_by, append_assoc, append-nil, reverse}
 use Rattle.std.proofs.lemmas.Bool.{cases_lt, eq-eqb, le-leb, and_from, and_parts}
 use Rattle.std.proofs.lemmas.List.Elements.{Contains-append_right}
 use Rattle.std.proofs.lemmas.List.Sorted.{Contains-permutation}
@@ -25,32 +25,24 @@ use Rattle.calls_core.proofs.Counting.{split_at}
 use Rattle.calls_buffers.specs.declared.fault.Fault.{Fault}
 use Rattle.calls_buffers.specs.declared.fault.Fault.TheVariants.{Unproduced, Overfull, Crowded}
 use Rattle.calls_buffers.specs.declared.fault.Fault.TheVariants.{Overtaken, Passed, Squeezed}
+use Rattle.calls_buffers.specs.declared.fault.Fault.TheVariants.{Overdue}
 use Rattle.calls_buffers.specs.Queues.{IsQueueRun}
 use Rattle.calls_buffers.specs.Counts.{any_item, item, produces, is_consume, put_one}
 use Rattle.calls_buffers.specs.Counts.{is_put, is_take, returned_puts, invoked_puts, all_puts}
 use Rattle.calls_buffers.specs.Counts.{returned_takes, invoked_takes, later_takes, pending_takes}
 use Rattle.calls_buffers.specs.Counts.{untaken}
-use Rattle.calls_buffers.specs.Faults.{IsConsumeOf}
+use Rattle.calls_buffers.specs.Jobs.{IsConsumeOf}
 use Rattle.calls_buffers.specs.Faults.{ShowsIn, Shows}
-use Rattle.calls_buffers.proofs.Flows.{put_by, taken_by, put_items, taken_items, run_first, leaves}
-use Rattle.calls_buffers.proofs.Flows.{count_put, count_taken, IsBounded, bounded}
+use Rattle.calls_buffers.proofs.Flows.{put_by, taken_by, put_items, taken_items, put_append}
+use Rattle.calls_buffers.proofs.Flows.{taken_append, run_first, leaves, count_put, count_taken}
+use Rattle.calls_buffers.proofs.Flows.{IsBounded, bounded}
 use Rattle.calls_buffers.proofs.Cuts.{Lasts, Cut, cut, not_before, PutAt, put_at}
 use Rattle.calls_buffers.proofs.Asking.{put_asked, take_asked, none_untaken}
+use Rattle.calls_schedule.proofs.Ranks.{no_ranks}
 use Rattle.calls_buffers.proofs.Squeezing.{no_squeeze}
+use Rattle.calls_buffers.proofs.Standing.{most, rank, have_ranks}
 use Rattle.calls_buffers.proofs.Tallies.{all_last, all_keep, queue, counted}
 use Rattle.calls_buffers.proofs.Tallies.{returned_in_front, invoked_in_back, front_invoked}
-
--- ITEMS UP TO A CALL
-
-put_append : (xs ys : List Call) → put_items (xs ++ ys) ≡ put_items xs ++ put_items ys
-put_append [] ys = refl
-put_append (c ∷ xs) ys = ap (λ zs. put_by c.op c.reply ++ zs) (put_append xs ys)
-    ∙ sym (append_assoc (put_by c.op c.reply) (put_items xs) (put_items ys))
-
-taken_append : (xs ys : List Call) → taken_items (xs ++ ys) ≡ taken_items xs ++ taken_items ys
-taken_append [] ys = refl
-taken_append (c ∷ xs) ys = ap (λ zs. taken_by c.op c.reply ++ zs) (taken_append xs ys)
-    ∙ sym (append_assoc (taken_by c.op c.reply) (taken_items xs) (taken_items ys))
 
 module _ (n t : ℕ) (done : List Call) (pending : List PendingCall) (cs : List Call)
     (l : IsLinearOrder (IsLegalHistory (initial (Some (Buffer n)))) done pending t cs)
@@ -267,6 +259,10 @@ module _ (n t : ℕ) (done : List Call) (pending : List PendingCall) (cs : List 
   )
   no_order (Squeezed q p left asked) s =
       absurd (no_squeeze n t done pending cs l h q p left asked s)
+  no_order (Overdue bounds) s =
+      let r = have_ranks n t done pending cs l h s.end s.jobs s.are in
+      no_ranks n s.jobs (reverse bounds.items) (most n t done pending cs l h s.end s.jobs s.are)
+      (rank n t done pending cs l h s.end s.jobs s.are) s.refuted r
 
 pub fault_leaves_no_order : (n : ℕ) (past : List Event) (f : Fault) (t : ℕ) (cs : List Call)
     → IsHistoryOf (Buffer n) past → clock past ≤ t → Shows n past f

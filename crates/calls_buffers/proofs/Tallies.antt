@@ -25,10 +25,10 @@ use Rattle.calls_buffers.proofs.Cuts.{Lasts}
 -- LISTS
 
 -- no more pass the first test than the second
-pub count_under : (p q : Call → Bool) (P : Call → Type 0) → ((c : Call) → P c → p c ≡ true
-    → q c ≡ true) → (cs : List Call) → Each P cs → count_by p cs ≤ count_by q cs
-count_under p q P f cs h = count_less p q cs (all_from_each (λ c. p c ≡ true → q c ≡ true) cs
-    (each_weaker P (λ c. p c ≡ true → q c ≡ true) f cs h))
+pub count_under : {X : Type 0} (p q : X → Bool) (P : X → Type 0) → ((x : X) → P x → p x ≡ true
+    → q x ≡ true) → (xs : List X) → Each P xs → count_by p xs ≤ count_by q xs
+count_under p q P f xs h = count_less p q xs (all_from_each (λ x. p x ≡ true → q x ≡ true) xs
+    (each_weaker P (λ x. p x ≡ true → q x ≡ true) f xs h))
 
 pub count_zero : (p : Call → Bool) (P : Call → Type 0) → ((c : Call) → P c → p c ≡ false)
     → (cs : List Call) → Each P cs → count_by p cs ≡ 0

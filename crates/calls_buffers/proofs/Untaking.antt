@@ -14,11 +14,11 @@ use Rattle.calls_core.proofs.Counting.{one, count_cons, count_append}
 use Rattle.calls_buffers.specs.Counts.{item, took_one, is_take, invoked_takes, untaken}
 use Rattle.calls_buffers.specs.kept.Items.{taken_item}
 
-abbrev passes : (ℕ → Bool) → Option ℕ → Bool
+abbrev pub passes : (ℕ → Bool) → Option ℕ → Bool
 passes test None = false
 passes test (Some v) = test v
 
-took_item : (test : ℕ → Bool) (op : Op) (r : Reply)
+pub took_item : (test : ℕ → Bool) (op : Op) (r : Reply)
     → took_one test op r ≡ passes test (taken_item op r)
 took_item test Consume (Number v) = refl
 took_item test Consume Done = refl

@@ -1,6 +1,6 @@
 -- What shows that the calls of a buffer have no linearization. Each fault is a few calls and counts
 -- of others, by one of their positions. A call that timed out is not counted.
-use Rattle.std.specs.Prelude.{◌≡◌, ℕ, ◌+◌, ◌<◌, ◌≤◌, ◌⊎◌, List}
+use Rattle.std.specs.Prelude.{◌≡◌, ℕ, ◌+◌, ◌<◌, ◌≤◌, ◌⊎◌, List, reverse}
 use Rattle.std.specs.List.{Contains}
 use Rattle.calls_core.specs.declared.history.Op.TheVariants.{Produce, Consume}
 use Rattle.calls_core.specs.declared.history.Reply.TheVariants.{Done, Number}
@@ -8,24 +8,17 @@ use Rattle.calls_core.specs.declared.history.Event.{Event}
 use Rattle.calls_core.specs.declared.history.PendingCall.{PendingCall}
 use Rattle.calls_core.specs.declared.history.Call.{Call}
 use Rattle.calls_core.specs.Histories.{pending_calls, completed_calls}
+use Rattle.calls_schedule.specs.declared.job.Job.{Job}
+use Rattle.calls_schedule.specs.declared.job.Bound.{Bound}
+use Rattle.calls_schedule.specs.Schedules.{Refute}
 use Rattle.calls_buffers.specs.declared.fault.Fault.{Fault}
 use Rattle.calls_buffers.specs.declared.fault.Fault.TheVariants.{Unproduced, Overfull, Crowded}
 use Rattle.calls_buffers.specs.declared.fault.Fault.TheVariants.{Overtaken, Passed, Squeezed}
+use Rattle.calls_buffers.specs.declared.fault.Fault.TheVariants.{Overdue}
 use Rattle.calls_buffers.specs.Counts.{any_item, item, untaken, returned_puts, invoked_puts}
 use Rattle.calls_buffers.specs.Counts.{all_puts, returned_takes, invoked_takes, later_takes}
 use Rattle.calls_buffers.specs.Counts.{pending_takes}
-
--- p is a completed produce of v
-pub record IsProduceOf (done : List Call) (v : ℕ) (p : Call) : Type 0 where
-  pub known : Contains done p
-  pub asks : p.op ≡ Produce v
-  pub returns : p.reply ≡ Done
-
--- c is a completed consume that returned v
-pub record IsConsumeOf (done : List Call) (v : ℕ) (c : Call) : Type 0 where
-  pub known : Contains done c
-  pub asks : c.op ≡ Consume
-  pub returns : c.reply ≡ Number v
+use Rattle.calls_buffers.specs.Jobs.{IsProduceOf, IsConsumeOf, AreJobs}
 
 -- up to the response of c, so many consumes had returned its item, and fewer produces of it were
 -- invoked
@@ -101,6 +94,15 @@ pub record FromSqueezed (n : ℕ) (done : List Call) (pending : List PendingCall
   pub asks : asked ≡ pending_takes p.last pending
   pub more : n + asked ≤ left
 
+-- items that are put in once, as jobs that end when the item is taken out, have no ranks: a bound
+-- on how many were taken before a position is of more items than they can be
+pub record FromOverdue (n : ℕ) (done : List Call) (pending : List PendingCall)
+    (bounds : List Bound) : Type 0 where
+  pub end : ℕ
+  pub jobs : List Job
+  pub are : AreJobs done pending end jobs
+  pub refuted : Refute n jobs (reverse bounds)
+
 -- completed and pending calls of a buffer with room for n items show a fault
 abbrev pub ShowsIn : ℕ → List Call → List PendingCall → Fault → Type 0
 ShowsIn n done pending (Unproduced c taken put) = FromUnproduced done pending c taken put
@@ -110,6 +112,7 @@ ShowsIn n done pending (Overtaken p c before later all) =
     FromOvertaken done pending p c before later all
 ShowsIn n done pending (Passed p c left asked) = FromPassed done pending p c left asked
 ShowsIn n done pending (Squeezed q p left asked) = FromSqueezed n done pending q p left asked
+ShowsIn n done pending (Overdue bounds) = FromOverdue n done pending bounds.items
 
 -- a history shows a fault
 abbrev pub Shows : ℕ → List Event → Fault → Type 0

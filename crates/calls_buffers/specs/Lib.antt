@@ -1,5 +1,6 @@
 pub mod Queues
 pub mod Counts
+pub mod Jobs
 pub mod Faults
 pub mod Outcomes
 pub mod Laws

@@ -1,15 +1,37 @@
 -- What is decided of the calls of a buffer.
-use Rattle.std.specs.Prelude.{ℕ, List, reverse}
+use Rattle.std.specs.Prelude.{◌≡◌, ℕ, ◌+◌, ◌<◌, ◌≤◌, ◌^◌, ◌⊎◌, List, reverse, count_by}
 use Rattle.calls_core.specs.declared.history.Kind.TheVariants.{Buffer}
 use Rattle.calls_core.specs.declared.history.Event.{Event}
+use Rattle.calls_core.specs.declared.history.PendingCall.{PendingCall}
+use Rattle.calls_core.specs.declared.history.Call.{Call}
+use Rattle.calls_core.specs.Histories.{completed_calls, pending_calls}
 use Rattle.calls_core.specs.Outcomes.{IsOrderOf}
 use Rattle.calls_buffers.specs.declared.deciding.Outcome.{Outcome}
 use Rattle.calls_buffers.specs.declared.deciding.Outcome.TheVariants.{Ordered, Refused, NotDecided}
+use Rattle.calls_buffers.specs.Counts.{item, is_take, is_consume, all_puts}
+use Rattle.calls_buffers.specs.Jobs.{IsProduceOf}
 use Rattle.calls_buffers.specs.Faults.{Shows}
 
+-- no consume is pending that may have taken an item: none is pending, or each item that a completed
+-- produce put in was returned
+abbrev pub AreAnswered : List Call → List PendingCall → Type 0
+AreAnswered done pending =
+    (count_by (λ (o : PendingCall). is_consume o.op) pending ≡ 0)
+    ⊎ ((v : ℕ) (p : Call) → IsProduceOf done v p → 0 < count_by (is_take (item v)) done)
+
+-- each item is put in at most once, and the consumes are answered
+pub record AreDistinct (done : List Call) (pending : List PendingCall) : Type 0 where
+  pub once : (v : ℕ) → all_puts (item v) done pending ≤ 1
+  pub answered : AreAnswered done pending
+
+-- the calls of a buffer with room for n items are of the class that is always decided
+pub record IsSimple (n : ℕ) (past : List Event) : Type 0 where
+  pub room : 0 < n
+  pub items : AreDistinct (completed_calls past) (pending_calls past)
+
 -- the calls have this linearization, in which a pending call that took effect has its response at
--- t; or they show this fault; or nothing is said
+-- t; or they show this fault; or they are not of that class, unless t is the last position of all
 abbrev pub IsOutcome : ℕ → List Event → ℕ → Outcome → Type 0
 IsOutcome n events t (Ordered cs) = IsOrderOf (Buffer n) (reverse events) t cs
 IsOutcome n events t (Refused f) = Shows n (reverse events) f
-IsOutcome n events t NotDecided = Unit {0}
+IsOutcome n events t NotDecided = t + 1 < 2 ^ 64 → IsSimple n (reverse events) → ⊥

@@ -1,3 +1,10 @@
 -- What only the code's own representation needs.
 pub mod Items
 pub mod Orders
+pub mod Accesses
+pub mod Windows
+pub mod Plans
+pub mod Pairs
+pub mod Jobs
+pub mod Ranks
+pub mod Decisions

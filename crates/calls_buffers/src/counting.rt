@@ -126,3 +126,10 @@ pub(crate) fn all_pending_puts(items: &Items, pending: &[PendingCall]) -> usize
 {
     pending.iter().filter(|o| produces(items, o.op)).count()
 }
+
+/// Counts all consumes that are pending.
+pub(crate) fn all_pending_takes(pending: &[PendingCall]) -> usize
+    ensures { result ≡ count_by (λ (o : PendingCall). is_consume o.op) pending.now }
+{
+    pending.iter().filter(|o| is_consume(o.op)).count()
+}

@@ -1,10 +1,12 @@
 //! Why the calls of a buffer have no linearization.
 use calls_core::Call;
+use calls_schedule::Bound;
+use std::alloc::Global;
 
 /// Completed calls and counts that show that no linearization exists. A call that timed out has no
 /// effect and is not counted. An item is *taken by* a position if a consume that returned it was
 /// invoked up to there.
-#[derive(Clone, Copy, Debug, PartialEq, Eq)]
+#[derive(Debug, Drop)]
 pub enum Fault {
     /// Up to the response of this consume, so many consumes had returned its item, and fewer
     /// produces of that item had been invoked.
@@ -57,5 +59,11 @@ pub enum Fault {
         put: Call,
         left: usize,
         pending: usize,
+    },
+    /// Before each of these positions so many items, which are put in once, were not taken, and are
+    /// among the first ones: so at most the others were taken before it. The last of them are more
+    /// than the first ones, of which they are.
+    Overdue {
+        bounds: Vec<Bound>,
     },
 }

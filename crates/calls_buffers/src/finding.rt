@@ -3,10 +3,11 @@ ghost use Rattle.std.specs.Prelude.{IfOk, IfSome};
 ghost use Rattle.calls_buffers.specs.Faults.{ShowsIn};
 
 use crate::Fault;
+use crate::accesses::Place;
 use crate::recorded::Recorded;
 use crate::tally::Tally;
 use crate::testing::{crowded, overfull, overtaken, passed, squeezed, unproduced};
-use crate::windows::{NEVER, Place, Window, Windows};
+use crate::windows::{Window, Windows};
 use calls_core::Op;
 use std::alloc::{AllocError, Global};
 use std::cmp::Reverse;
@@ -70,10 +71,10 @@ fn too_early(windows: &Windows) -> Option<Candidate> {
 
 /// Lists the responses of the produces, each with the position from which its item may have been
 /// taken out.
-fn returned(alloc: Global, windows: &[Window]) -> Result<Vec<Moment>, AllocError> {
+fn returned(alloc: Global, windows: &[Window], end: usize) -> Result<Vec<Moment>, AllocError> {
     let mut moments = Vec::new(alloc);
     for window in windows {
-        if window.put_last < NEVER {
+        if window.put_last < end {
             moments.push(Moment {
                 at: window.put_last,
                 other: window.out_from(),
@@ -118,11 +119,11 @@ fn too_many(room: usize, moments: &[Moment], taken: &[usize], pending: &[usize])
 }
 
 /// Lists the produces by their responses, each with the latest invocation of a consume up to it.
-fn latest(alloc: Global, moments: &[Moment]) -> Result<Vec<Moment>, AllocError> {
+fn latest(alloc: Global, moments: &[Moment], end: usize) -> Result<Vec<Moment>, AllocError> {
     let mut list = Vec::new(alloc);
     let mut best: Option<Moment> = None;
     for moment in moments {
-        if moment.other < NEVER && best.is_none_or(|b| b.other <= moment.other) {
+        if moment.other < end && best.is_none_or(|b| b.other <= moment.other) {
             best = Some(*moment);
         }
         if let Some(b) = best {
@@ -149,10 +150,10 @@ fn too_late(windows: &[Window], latest: &[Moment]) -> Option<Candidate> {
 }
 
 /// Lists the produces of the items that nobody returned, by their responses.
-fn kept(alloc: Global, moments: &[Moment]) -> Result<Vec<Moment>, AllocError> {
+fn kept(alloc: Global, moments: &[Moment], end: usize) -> Result<Vec<Moment>, AllocError> {
     let mut kept = Vec::new(alloc);
     for moment in moments {
-        if moment.other == NEVER {
+        if moment.other == end {
             kept.push(*moment)?;
         }
     }
@@ -248,14 +249,15 @@ fn candidates(
     room: usize,
     calls: &Recorded,
     windows: &Windows,
+    end: usize,
 ) -> Result<Vec<Option<Candidate>>, AllocError> {
     let pending = pending_takes(alloc, calls)?;
-    let moments = returned(alloc, &windows.list)?;
+    let moments = returned(alloc, &windows.list, end)?;
     let taken = invoked(alloc, &moments)?;
     let inside = inside(alloc, &moments)?;
     let taken_inside = invoked(alloc, &inside)?;
-    let latest = latest(alloc, &moments)?;
-    let kept = kept(alloc, &moments)?;
+    let latest = latest(alloc, &moments, end)?;
+    let kept = kept(alloc, &moments, end)?;
     let mut list = Vec::new(alloc);
     list.push(too_early(windows))?;
     let full = too_many(room, &moments, &taken, &pending);
@@ -274,11 +276,12 @@ pub(crate) fn find_fault(
     room: usize,
     calls: &Recorded,
     windows: &Windows,
+    end: usize,
 ) -> Result<Option<Fault>, AllocError>
     ensures { IfOk result (λ f. IfSome f (ShowsIn room calls.now.done.items
         calls.now.pending.items)) }
 {
-    let list = candidates(alloc, room, calls, windows)?;
+    let list = candidates(alloc, room, calls, windows, end)?;
     for candidate in &list {
         if let Some(candidate) = *candidate {
             let fault = test(alloc, room, calls, candidate)?;

@@ -1,7 +1,7 @@
 //! The items that a count is about.
 ghost use Rattle.std.specs.Prelude.{◌≡◌, ℕ, IfOk};
 ghost use Rattle.calls_buffers.specs.Counts.{untaken};
-ghost use Rattle.calls_buffers.specs.kept.Items.{counts, taken_item, produced_item};
+ghost use Rattle.calls_buffers.specs.kept.Items.{counts, taken_item, produced_item, put_item};
 
 use calls_core::{Call, Op, Reply};
 use std::alloc::{AllocError, Global};
@@ -53,6 +53,16 @@ pub(crate) fn produced_item(op: Op) -> Option<usize>
     match op {
         Op::Produce(value) => Some(value),
         _ => None,
+    }
+}
+
+/// Returns the item that a call put into the buffer.
+pub(crate) fn put_item(call: &Call) -> Option<usize>
+    ensures { result ≡ put_item call.now.op call.now.reply }
+{
+    match call.reply {
+        Reply::Done => produced_item(call.op),
+        Reply::Number(_) | Reply::Timeout => None,
     }
 }
 

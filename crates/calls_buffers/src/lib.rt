@@ -1,12 +1,15 @@
-//! Decides whether the calls of a bounded buffer have a linearization, if it finds one or a fault.
+//! Decides whether the calls of a bounded buffer have a linearization: always if no item is put in
+//! twice and no pending consume may have taken one, else if it finds one or a fault.
 #![tactic(auto)]
 
+mod accesses;
 mod checking;
 mod counting;
 mod deciding;
 mod fault;
 mod finding;
 mod items;
+mod jobs;
 mod laws;
 mod ordering;
 mod planning;

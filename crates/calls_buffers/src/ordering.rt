@@ -1,12 +1,20 @@
 //! Orders the calls that take effect.
-ghost use Rattle.std.specs.Prelude.{◌≡◌, ◌++◌, IfOk, IfSome, OnOk, slice_index_or};
+ghost use Rattle.std.specs.Prelude.{◌≡◌, ◌++◌, List, None, map, IfOk, IfSome, IsSome, OnOk};
+ghost use Rattle.std.specs.Prelude.{slice_index_or};
+ghost use Rattle.std.specs.HashMap.{get};
 ghost use Rattle.std.specs.List.Sorted.{IsPermutation};
+ghost use Rattle.calls_core.specs.Lists.{EachPair};
+ghost use Rattle.calls_core.specs.declared.history.Call.{Call};
+ghost use Rattle.calls_buffers.specs.Queues.{IsLegal};
 ghost use Rattle.calls_buffers.specs.kept.Orders.{answered_from, calls_in, IsFound};
+ghost use Rattle.calls_buffers.specs.kept.Orders.{same_pair, place_in, key_of, with_key};
+ghost use Rattle.calls_buffers.specs.kept.Orders.{Before};
 
 use crate::checking::verify;
 use crate::recorded::Recorded;
-use calls_core::{Call, PendingCall, PlacedCalls, Reply};
+use calls_core::{Call, Op, PendingCall, PlacedCalls, Reply};
 use std::alloc::{AllocError, Global};
+use std::collections::HashMap;
 
 /// The place of a call in an order.
 #[derive(Clone, Copy)]
@@ -28,27 +36,88 @@ pub(crate) struct Keyed {
     pub(crate) call: Call,
 }
 
-/// A plan of an order.
+/// The places of the calls of items, each by the item and the position of the call's invocation.
 #[derive(Drop)]
 pub(crate) struct Plan {
-    /// The places of the completed calls, at their indices.
-    pub(crate) done: Vec<Key>,
-    /// The places of the pending calls, at their indices.
-    pub(crate) pending: Vec<Key>,
-    /// The replies of the pending calls that take effect, at their indices.
-    pub(crate) answers: Vec<Option<Reply>>,
+    /// Those of produces.
+    pub(crate) puts: HashMap<(usize, usize), Key>,
+    /// Those of consumes.
+    pub(crate) takes: HashMap<(usize, usize), Key>,
 }
 
-/// Returns the key at an index, or the least one.
-fn key_at(keys: &[Key], i: usize) -> Key {
-    if i < keys.len() {
-        return keys[i];
+/// Returns the place of the call of an item that was invoked at a position.
+pub(crate) fn find(places: &HashMap<(usize, usize), Key>, item: usize, first: usize) -> Option<Key>
+    ensures { result ≡ get same_pair places.now (item, first) }
+{
+    places.get(&(item, first)).copied()
+}
+
+/// Returns the place of a call, if it has one.
+fn place_of(plan: &Plan, call: &Call) -> Option<Key>
+    ensures { result ≡ place_in (get same_pair plan.now.puts) (get same_pair plan.now.takes)
+        call.now.op call.now.reply call.now.first }
+{
+    match call.reply {
+        Reply::Done => {
+            match call.op {
+                Op::Produce(item) => find(&plan.puts, item, call.first),
+                _ => None,
+            }
+        }
+        Reply::Number(item) => {
+            match call.op {
+                Op::Consume => find(&plan.takes, item, call.first),
+                _ => None,
+            }
+        }
+        Reply::Timeout => None,
     }
-    Key {
-        point: 0,
-        rank: 0,
-        takes: false,
+}
+
+/// Returns the place of a call. One that has none is right after its invocation.
+fn key_call(plan: &Plan, call: &Call) -> Keyed
+    ensures { result ≡ with_key (get same_pair plan.now.puts) (get same_pair plan.now.takes)
+        call.now }
+{
+    let key = match place_of(plan, call) {
+        Some(key) => key,
+        None => Key {
+            point: call.first,
+            rank: 0,
+            takes: false,
+        },
+    };
+    Keyed { key, call: *call }
+}
+
+/// Lists calls with their places.
+fn with_keys(alloc: Global, plan: &Plan, calls: &[Call]) -> Result<Vec<Keyed>, AllocError>
+    ensures { IfOk result (λ list. list.items ≡ map (with_key (get same_pair plan.now.puts)
+        (get same_pair plan.now.takes)) calls.now) }
+{
+    let mut list = Vec::new(alloc);
+    for call in calls {
+        list.push(key_call(plan, call))?;
     }
+    Ok(list)
+}
+
+/// Lists calls without their places.
+fn without_keys(alloc: Global, list: &[Keyed]) -> Result<Vec<Call>, AllocError>
+    ensures { IfOk result (λ calls. calls.items ≡ calls_in list.now) }
+{
+    list.iter().map(|keyed| keyed.call).collect(alloc)
+}
+
+/// Lists calls in the order of their places.
+fn sorted(alloc: Global, plan: &Plan, calls: &[Call]) -> Result<Vec<Call>, AllocError>
+    ensures moved { IfOk result (λ list. IsPermutation calls.now list.items) }
+    ensures ordered { IfOk result (λ list. EachPair (Before (key_of (get same_pair plan.now.puts)
+        (get same_pair plan.now.takes))) list.items) }
+{
+    let mut list = with_keys(alloc, plan, calls)?;
+    list.sort_by_key(|keyed| (keyed.key.point, keyed.key.rank, keyed.key.takes))?;
+    without_keys(alloc, &list)
 }
 
 /// Returns the reply at an index.
@@ -58,63 +127,22 @@ fn answer_at(answers: &[Option<Reply>], i: usize) -> Option<Reply>
     if i < answers.len() { answers[i] } else { None }
 }
 
-/// Adds the completed calls.
-fn add_completed(list: &mut Vec<Keyed>, done: &[Call], keys: &[Key]) -> Result<(), AllocError>
-    ensures { OnOk result (calls_in list.new.items ≡ calls_in list.old.items ++ done.now) }
-{
-    for i in 0..done.len() {
-        list.push(Keyed {
-            key: key_at(keys, i),
-            call: done[i],
-        })?;
-    }
-    Ok(())
-}
-
 /// Adds the pending calls that take effect, with their replies as if they came at `end`.
 fn add_pending(
-    list: &mut Vec<Keyed>,
+    list: &mut Vec<Call>,
     pending: &[PendingCall],
-    plan: &Plan,
+    answers: &[Option<Reply>],
     end: usize,
 ) -> Result<(), AllocError>
-    ensures { OnOk result (calls_in list.new.items ≡ calls_in list.old.items
-        ++ answered_from end plan.now.answers.items 0 pending.now) }
+    ensures { OnOk result (list.new.items ≡ list.old.items
+        ++ answered_from end answers.now 0 pending.now) }
 {
     for i in 0..pending.len() {
-        if let Some(reply) = answer_at(&plan.answers, i) {
-            list.push(Keyed {
-                key: key_at(&plan.pending, i),
-                call: pending[i].complete(reply, end),
-            })?;
+        if let Some(reply) = answer_at(answers, i) {
+            list.push(pending[i].complete(reply, end))?;
         }
     }
     Ok(())
-}
-
-/// Lists the calls that take effect in the order of a plan.
-fn sorted(
-    alloc: Global,
-    calls: &Recorded,
-    plan: &Plan,
-    end: usize,
-) -> Result<Vec<Keyed>, AllocError>
-    ensures { IfOk result (λ list. IsPermutation (calls.now.done.items
-        ++ answered_from end plan.now.answers.items 0 calls.now.pending.items)
-        (calls_in list.items)) }
-{
-    let mut list = Vec::new(alloc);
-    add_completed(&mut list, &calls.done, &plan.done)?;
-    add_pending(&mut list, &calls.pending, plan, end)?;
-    list.sort_by_key(|keyed| (keyed.key.point, keyed.key.rank, keyed.key.takes))?;
-    Ok(list)
-}
-
-/// Lists the calls without their keys.
-fn without_keys(alloc: Global, list: &[Keyed]) -> Result<Vec<Call>, AllocError>
-    ensures { IfOk result (λ calls. calls.items ≡ calls_in list.now) }
-{
-    list.iter().map(|keyed| keyed.call).collect(alloc)
 }
 
 /// Returns calls with their points.
@@ -128,19 +156,26 @@ fn placed(alloc: Global, calls: &[Call]) -> Result<PlacedCalls, AllocError>
     Ok(order)
 }
 
-/// Returns the order of a plan, if it is one of a buffer.
+/// Returns the order of a plan, if it is one of a buffer. The pending calls that have a reply in a
+/// list take effect.
 pub(crate) fn follow(
     alloc: Global,
     room: usize,
     calls: &Recorded,
     plan: &Plan,
+    answers: &[Option<Reply>],
     end: usize,
 ) -> Result<Option<PlacedCalls>, AllocError>
-    ensures { IfOk result (λ order. IfSome order (IsFound room calls.now.done.items
+    ensures sound { IfOk result (λ order. IfSome order (IsFound room calls.now.done.items
         calls.now.pending.items end)) }
+    ensures found { ((cs : List Call) → IsPermutation (calls.now.done.items ++ answered_from end
+        answers.now 0 calls.now.pending.items) cs
+        → EachPair (Before (key_of (get same_pair plan.now.puts) (get same_pair plan.now.takes))) cs
+        → IsLegal room cs) → IfOk result (λ order. IsSome order) }
 {
-    let list = sorted(alloc, calls, plan, end)?;
-    let order = without_keys(alloc, &list)?;
+    let mut list = Vec::from_slice(alloc, &calls.done)?;
+    add_pending(&mut list, &calls.pending, answers, end)?;
+    let order = sorted(alloc, plan, &list)?;
     if !verify(alloc, room, &order)? {
         return Ok(None);
     }

@@ -1,125 +1,226 @@
 //! Plans an order of the calls.
-ghost use Rattle.std.specs.Prelude.{IfOk, IfSome};
-ghost use Rattle.calls_buffers.specs.kept.Orders.{IsFound};
+ghost use Rattle.std.specs.Prelude.{◌≡◌, ℕ, ◌+◌, ◌<◌, List, length, map, IfOk, IfSome, IsSome};
+ghost use Rattle.std.specs.Prelude.{OnOk, None, Some, slice_index_or, if◌then◌else◌};
+ghost use Rattle.std.specs.HashMap.{get};
+ghost use Rattle.calls_core.specs.declared.history.Kind.TheVariants.{Buffer};
+ghost use Rattle.calls_core.specs.declared.history.PendingCall.{PendingCall};
+ghost use Rattle.calls_core.specs.Calls.{AreCallsOf};
+ghost use Rattle.calls_buffers.specs.declared.windows.Window.{Window};
+ghost use Rattle.calls_buffers.specs.kept.Orders.{same_pair, IsFound};
+ghost use Rattle.calls_buffers.specs.kept.Windows.{AreWindows, AreRanked};
+ghost use Rattle.calls_buffers.specs.kept.Plans.{no_stay, stay_at, IsNext, AreStays, put_pair};
+ghost use Rattle.calls_buffers.specs.kept.Plans.{put_key, take_pair, take_key, ArePlaces, IsPlan};
+ghost use Rattle.calls_buffers.specs.kept.Plans.{answer_of};
 
-use crate::ordering::{Key, Plan, follow};
-use crate::ranking::ranked;
+use crate::accesses::Place;
+use crate::ordering::{Key, Plan, find, follow};
+use crate::ranking::{Ranking, ranked};
 use crate::recorded::Recorded;
-use crate::windows::{NEVER, Place, Window};
-use calls_core::{Op, PlacedCalls, Reply};
+use crate::windows::Window;
+use calls_core::{Op, PendingCall, PlacedCalls, Reply};
 use std::alloc::{AllocError, Global};
+use std::collections::HashMap;
 
 /// How many numbers of pending consumes are tried.
 const TRIES: usize = 16;
 
-/// The position of the response of a pending consume that took effect.
-const AT_LAST: usize = NEVER - 1;
-
-/// Returns the plan in which each call is right after its invocation, and no pending call takes
-/// effect.
-fn empty_plan(alloc: Global, calls: &Recorded) -> Result<Plan, AllocError> {
-    let mut done = Vec::new(alloc);
-    for call in &calls.done {
-        done.push(Key {
-            point: call.first.saturating_add(1),
-            rank: 0,
-            takes: false,
-        })?;
-    }
-    let mut pending = Vec::new(alloc);
-    let mut answers = Vec::new(alloc);
-    for call in &calls.pending {
-        pending.push(Key {
-            point: call.first,
-            rank: 0,
-            takes: false,
-        })?;
-        answers.push(None)?;
-    }
-    Ok(Plan {
-        done,
-        pending,
-        answers,
-    })
+/// When an item is put in and taken out.
+#[derive(Clone, Copy)]
+pub(crate) struct Stay {
+    /// When it is put in.
+    pub(crate) put_at: usize,
+    /// When it is taken out.
+    pub(crate) take_at: usize,
 }
 
-/// Gives a call its place. A pending one takes effect with this reply.
-fn put(plan: &mut Plan, place: Place, key: Key, reply: Reply) {
-    match place {
-        Place::Completed(i) => {
-            if i < plan.done.len() {
-                plan.done[i] = key;
-            }
-        }
-        Place::Pending(i) => {
-            if i < plan.pending.len() {
-                plan.pending[i] = key;
-            }
-            if i < plan.answers.len() {
-                plan.answers[i] = Some(reply);
-            }
-        }
+/// Returns the stay at an index.
+fn stay_at(stays: &[Stay], i: usize) -> Stay
+    ensures { result ≡ stay_at stays.now i }
+{
+    if i < stays.len() {
+        return stays[i];
+    }
+    Stay {
+        put_at: 0,
+        take_at: 0,
     }
 }
 
-/// Returns when the item with this rank is put in, if the one before it is put in at `last`.
-fn put_point(room: usize, window: &Window, rank: usize, last: usize, outs: &[usize]) -> usize {
-    let point = last.max(window.put_first.saturating_add(1));
-    match rank.checked_sub(room) {
-        Some(i) => point.max(outs.get(i).copied().unwrap_or(0)),
-        None => point,
+/// Returns the stay that comes so many before the next one.
+fn stay_before(stays: &[Stay], n: usize) -> Stay
+    ensures at { (k : ℕ) → k + n ≡ length stays.now → result ≡ stay_at stays.now k }
+    ensures none { length stays.now < n → result ≡ no_stay }
+{
+    match stays.len().checked_sub(n) {
+        Some(i) => stay_at(stays, i),
+        None => Stay {
+            put_at: 0,
+            take_at: 0,
+        },
     }
 }
 
-/// Gives the calls of items their places, in the order of their ranks, as early as may be.
-fn place_all(
-    alloc: Global,
-    room: usize,
-    plan: &mut Plan,
-    windows: &[Window],
-    order: &[usize],
-) -> Result<(), AllocError> {
-    let mut outs = Vec::new(alloc);
-    let mut put_at = 0;
-    let mut take_at = 0;
-    for (rank, i) in order.iter().enumerate() {
-        let Some(window) = windows.get(*i) else {
-            return Ok(());
-        };
-        put_at = put_point(room, window, rank, put_at, &outs);
-        let key = Key {
-            point: put_at,
-            rank,
-            takes: false,
-        };
-        put(plan, window.put, key, Reply::Done);
-        take_at = put_at.max(take_at).max(window.take_first.saturating_add(1));
-        outs.push(take_at)?;
-        if let Some(take) = window.take {
-            let key = Key {
-                point: take_at,
-                rank,
-                takes: true,
-            };
-            put(plan, take, key, Reply::Number(window.item));
-        }
+/// Returns the stay of the item with the next rank, as early as may be: it is put in after the one
+/// before it, and after the one is taken out whose room it needs.
+fn next_stay(room: usize, window: &Window, stays: &[Stay]) -> Stay
+    ensures { IsNext room window.now stays.now result }
+{
+    let last = stay_before(stays, 1);
+    let freed = stay_before(stays, room);
+    let put_at = last.put_at.max(window.put_first).max(freed.take_at);
+    let take_at = last.take_at.max(window.take_first).max(put_at);
+    Stay { put_at, take_at }
+}
+
+/// Lists the stays of items in the order of their ranks.
+fn stays_of(alloc: Global, room: usize, order: &[Window]) -> Result<Vec<Stay>, AllocError>
+    ensures { IfOk result (λ stays. AreStays room order.now (length order.now) stays.items) }
+{
+    let mut stays = Vec::new(alloc);
+    for i in 0..order.len() {
+        let stay = next_stay(room, &order[i], &stays);
+        stays.push(stay)?;
     }
+    Ok(stays)
+}
+
+/// Notes the place of the call of an item that was invoked at a position.
+fn note(
+    places: &mut HashMap<(usize, usize), Key>,
+    item: usize,
+    first: usize,
+    key: Key,
+) -> Result<(), AllocError>
+    ensures { OnOk result ((q : ℕ × ℕ) → get same_pair places.new q
+        ≡ (if same_pair (item, first) q then Some key else get same_pair places.old q)) }
+{
+    places.insert((item, first), key)?;
     Ok(())
 }
 
-/// Plans an order of calls.
-fn plan(
+/// Returns the places of the produces of items.
+fn put_places(
+    alloc: Global,
+    order: &[Window],
+    stays: &[Stay],
+) -> Result<HashMap<(usize, usize), Key>, AllocError>
+    ensures { IfOk result (λ places. ArePlaces put_pair (put_key stays.now) order.now
+        (length order.now) (get same_pair places)) }
+{
+    let mut places = HashMap::new(alloc);
+    for i in 0..order.len() {
+        let key = Key {
+            point: stay_at(stays, i).put_at,
+            rank: i,
+            takes: false,
+        };
+        let window = &order[i];
+        note(&mut places, window.item, window.put_first, key)?;
+    }
+    Ok(places)
+}
+
+/// Returns the places of the consumes of items.
+fn take_places(
+    alloc: Global,
+    order: &[Window],
+    stays: &[Stay],
+) -> Result<HashMap<(usize, usize), Key>, AllocError>
+    ensures { IfOk result (λ places. ArePlaces take_pair (take_key stays.now) order.now
+        (length order.now) (get same_pair places)) }
+{
+    let mut places = HashMap::new(alloc);
+    for i in 0..order.len() {
+        let key = Key {
+            point: stay_at(stays, i).take_at,
+            rank: i,
+            takes: true,
+        };
+        let window = &order[i];
+        note(&mut places, window.item, window.take_first, key)?;
+    }
+    Ok(places)
+}
+
+/// Returns the reply of a pending call, if it takes effect: a produce that has a place, or a
+/// consume that takes an item.
+fn answer(plan: &Plan, call: &PendingCall, taken: Option<usize>) -> Option<Reply>
+    ensures { result ≡ answer_of (get same_pair plan.now.puts) taken call.now.op call.now.first }
+{
+    match call.op {
+        Op::Produce(item) => {
+            match find(&plan.puts, item, call.first) {
+                Some(_) => Some(Reply::Done),
+                None => None,
+            }
+        }
+        Op::Consume => {
+            match taken {
+                Some(item) => Some(Reply::Number(item)),
+                None => None,
+            }
+        }
+        _ => None,
+    }
+}
+
+/// Returns the item at an index.
+fn taken_at(taken: &[Option<usize>], i: usize) -> Option<usize>
+    ensures { result ≡ slice_index_or taken.now i None }
+{
+    if i < taken.len() { taken[i] } else { None }
+}
+
+/// Lists the replies of the pending calls that take effect, at the indices of these.
+fn answers_of(
+    alloc: Global,
+    plan: &Plan,
+    pending: &[PendingCall],
+    taken: &[Option<usize>],
+) -> Result<Vec<Option<Reply>>, AllocError>
+    ensures { IfOk result (λ answers. ((i : ℕ) → slice_index_or taken.now i None ≡ None)
+        → answers.items ≡ map (λ (o : PendingCall). answer_of (get same_pair plan.now.puts) None
+        o.op o.first) pending.now) }
+{
+    let mut answers = Vec::new(alloc);
+    for i in 0..pending.len() {
+        answers.push(answer(plan, &pending[i], taken_at(taken, i)))?;
+    }
+    Ok(answers)
+}
+
+/// Plans the calls of items by their ranks.
+fn plan_of(alloc: Global, room: usize, order: &[Window]) -> Result<Plan, AllocError>
+    ensures { IfOk result (λ plan. IsPlan room order.now (get same_pair plan.puts)
+        (get same_pair plan.takes)) }
+{
+    let stays = stays_of(alloc, room, order)?;
+    let puts = put_places(alloc, order, &stays)?;
+    let takes = take_places(alloc, order, &stays)?;
+    Ok(Plan { puts, takes })
+}
+
+/// Returns an order of the calls of these items and of those that time out, if there is one in
+/// which the items come in and go out as they are listed. `taken` says which item a pending consume
+/// takes, at the index of the call.
+pub(crate) fn order_of(
     alloc: Global,
     room: usize,
     calls: &Recorded,
-    windows: &[Window],
-) -> Result<Option<Plan>, AllocError> {
-    let Some(order) = ranked(alloc, room, windows)? else {
-        return Ok(None);
-    };
-    let mut plan = empty_plan(alloc, calls)?;
-    place_all(alloc, room, &mut plan, windows, &order)?;
-    Ok(Some(plan))
+    order: &[Window],
+    taken: &[Option<usize>],
+    end: usize,
+) -> Result<Option<PlacedCalls>, AllocError>
+    ensures sound { IfOk result (λ order. IfSome order (IsFound room calls.now.done.items
+        calls.now.pending.items end)) }
+    ensures found { (ws : List Window) → AreCallsOf (Buffer room) calls.now.done.items
+        calls.now.pending.items end → AreWindows calls.now.done.items calls.now.pending.items end ws
+        → AreRanked room ws order.now → 0 < room
+        → ((i : ℕ) → slice_index_or taken.now i None ≡ None) → IfOk result (λ order. IsSome order) }
+{
+    let plan = plan_of(alloc, room, order)?;
+    let answers = answers_of(alloc, &plan, &calls.pending, taken)?;
+    follow(alloc, room, calls, &plan, &answers, end)
 }
 
 /// Lists the pending consumes, each with its invocation and its index, in the order of these.
@@ -153,6 +254,7 @@ fn give(
     kept: &[(usize, usize)],
     takers: &[(usize, usize)],
     n: usize,
+    end: usize,
 ) -> Result<Vec<Window>, AllocError> {
     let mut list = Vec::from_slice(alloc, windows)?;
     for (i, (_, index)) in kept.iter().enumerate() {
@@ -161,10 +263,63 @@ fn give(
             let window = &mut list[*index];
             window.take = Some(Place::Pending(place));
             window.take_first = first;
-            window.take_last = AT_LAST;
+            window.take_last = end.saturating_sub(1);
         }
     }
     Ok(list)
+}
+
+/// Lists the items that pending consumes take, at the indices of these.
+fn taken_by(
+    alloc: Global,
+    calls: &Recorded,
+    windows: &[Window],
+) -> Result<Vec<Option<usize>>, AllocError> {
+    let mut taken = Vec::new(alloc);
+    for _ in &calls.pending {
+        taken.push(None)?;
+    }
+    give_out(&mut taken, windows);
+    Ok(taken)
+}
+
+/// Notes the items that pending consumes take, at the indices of these.
+fn give_out(taken: &mut Vec<Option<usize>>, windows: &[Window]) {
+    for window in windows {
+        if let Some(Place::Pending(i)) = window.take {
+            if i < taken.len() {
+                taken[i] = Some(window.item);
+            }
+        }
+    }
+}
+
+/// Lists windows with their indices in place of their items.
+fn numbered(alloc: Global, windows: &[Window]) -> Result<Vec<Window>, AllocError> {
+    let mut list = Vec::new(alloc);
+    for (item, window) in windows.iter().enumerate() {
+        list.push(Window { item, ..*window })?;
+    }
+    Ok(list)
+}
+
+/// Lists items by their ranks, if it finds some.
+fn by_rank(
+    alloc: Global,
+    room: usize,
+    windows: &[Window],
+    end: usize,
+) -> Result<Option<Vec<Window>>, AllocError> {
+    let Ranking::Ranked(ranks) = ranked(alloc, room, &numbered(alloc, windows)?, end)? else {
+        return Ok(None);
+    };
+    let mut order = Vec::new(alloc);
+    for rank in &ranks {
+        if let Some(window) = windows.get(rank.item) {
+            order.push(*window)?;
+        }
+    }
+    Ok(Some(order))
 }
 
 /// Returns an order of the calls of these items and of those that time out, if it finds one.
@@ -178,8 +333,11 @@ fn order_with(
     ensures { IfOk result (λ order. IfSome order (IsFound room calls.now.done.items
         calls.now.pending.items end)) }
 {
-    match plan(alloc, room, calls, windows)? {
-        Some(plan) => follow(alloc, room, calls, &plan, end),
+    match by_rank(alloc, room, windows, end)? {
+        Some(order) => {
+            let taken = taken_by(alloc, calls, &order)?;
+            order_of(alloc, room, calls, &order, &taken, end)
+        }
         None => Ok(None),
     }
 }
@@ -202,7 +360,7 @@ pub(crate) fn find_order(
     for i in 0..TRIES {
         let n = least.saturating_add(i);
         if n <= most {
-            let given = give(alloc, windows, &kept, &takers, n)?;
+            let given = give(alloc, windows, &kept, &takers, n, end)?;
             let order = order_with(alloc, room, calls, &given, end)?;
             if order.is_some() {
                 return Ok(order);

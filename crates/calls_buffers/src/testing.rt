@@ -1,11 +1,14 @@
 //! Tests by counting whether calls show a fault.
-ghost use Rattle.std.specs.Prelude.{◌≡◌, ◌↔◌, ◌⊎◌, ◌+◌, ◌<◌, IfOk, IfSome, IsTrue, length};
+ghost use Rattle.std.specs.Prelude.{◌≡◌, ◌↔◌, ◌⊎◌, ◌+◌, ◌<◌, ◌≤◌, IfOk, IfSome, IsSome, IsTrue};
+ghost use Rattle.std.specs.Prelude.{MatchOption, length};
 ghost use Rattle.calls_core.specs.declared.history.Op.TheVariants.{Produce};
 ghost use Rattle.calls_core.specs.declared.history.Reply.TheVariants.{Done};
 ghost use Rattle.calls_buffers.specs.Counts.{item, untaken, returned_puts, invoked_puts, all_puts};
 ghost use Rattle.calls_buffers.specs.Counts.{invoked_takes};
 ghost use Rattle.calls_buffers.specs.Faults.{ShowsIn};
+ghost use Rattle.calls_buffers.specs.declared.accesses.Place.TheVariants.{Completed};
 ghost use Rattle.calls_buffers.specs.kept.Items.{counts};
+ghost use Rattle.calls_buffers.specs.kept.Pairs.{IsUnproduced};
 
 use crate::Fault;
 use crate::counting::{
@@ -24,6 +27,16 @@ fn is_less(a: usize, b: usize, c: usize) -> bool
     match a.checked_add(b) {
         Some(sum) => sum < c,
         None => false,
+    }
+}
+
+/// Returns the sum of two numbers if it is below a limit.
+fn sum_below(a: usize, b: usize, limit: usize) -> Option<usize>
+    ensures { MatchOption result (limit ≤ a + b) (λ n. (n ≡ a + b) × (n < limit)) }
+{
+    match a.checked_add(b) {
+        Some(sum) if sum < limit => Some(sum),
+        _ => None,
     }
 }
 
@@ -83,21 +96,21 @@ fn untaken_puts(
 /// Tests the call at an index.
 pub(crate) fn unproduced(room: usize, calls: &Recorded, i: usize) -> Option<Fault>
     requires { i < length calls.now.done.items }
-    ensures { IfSome result (ShowsIn room calls.now.done.items calls.now.pending.items) }
+    ensures shown { IfSome result (ShowsIn room calls.now.done.items calls.now.pending.items) }
+    ensures found { IsUnproduced calls.now.done.items calls.now.pending.items (Completed i)
+        → IsSome result }
 {
     let consume = calls.done[i];
     let items = Items::One(taken_item(&consume)?);
     let taken = returned_takes(&items, consume.last, &calls.done);
-    let put = invoked_puts(calls, &items, consume.last)?;
-    if put < taken {
-        Some(Fault::Unproduced {
-            consume,
-            taken,
-            put,
-        })
-    } else {
-        None
-    }
+    let completed = completed_puts(&items, consume.last, &calls.done);
+    let waiting = pending_puts(&items, consume.last, &calls.pending);
+    let put = sum_below(completed, waiting, taken)?;
+    Some(Fault::Unproduced {
+        consume,
+        taken,
+        put,
+    })
 }
 
 /// Tests the call at an index.

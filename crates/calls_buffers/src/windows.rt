@@ -1,33 +1,17 @@
 //! The items of a history, each with its produce and its consume.
-use crate::items::{produced_item, taken_item};
+ghost use Rattle.std.specs.Prelude.{◌≡◌, ℕ, ◌<◌, ◌≤◌, IfOk, IsTrue, MatchOption};
+ghost use Rattle.std.specs.Prelude.{length, true, false};
+ghost use Rattle.calls_core.specs.Lists.{Each};
+ghost use Rattle.calls_buffers.specs.declared.accesses.Access.{Access};
+ghost use Rattle.calls_buffers.specs.Counts.{item, all_puts};
+ghost use Rattle.calls_buffers.specs.kept.Accesses.{ByItem, later};
+ghost use Rattle.calls_buffers.specs.kept.Pairs.{told, untold, window_list, fits, IsUnfit};
+ghost use Rattle.calls_buffers.specs.kept.Pairs.{IsUnproduced, ArePaired, AreNotPaired};
+ghost use Rattle.calls_buffers.specs.kept.Windows.{AreWindows, AreWithin, in_by, out_from};
+
+use crate::accesses::{Access, Place, find, puts, repeated, takes};
 use crate::recorded::Recorded;
-use calls_core::{Call, Reply};
 use std::alloc::{AllocError, Global};
-
-/// The position of what does not happen.
-pub(crate) const NEVER: usize = usize::MAX;
-
-/// Where a call is among those of a history.
-#[derive(Clone, Copy)]
-pub(crate) enum Place {
-    /// At this index of the completed ones.
-    Completed(usize),
-    /// At this index of the pending ones.
-    Pending(usize),
-}
-
-/// A produce or a consume.
-#[derive(Clone, Copy)]
-struct Access {
-    /// The item.
-    item: usize,
-    /// Where the call is.
-    place: Place,
-    /// The position of its invocation.
-    first: usize,
-    /// The position of its response.
-    last: usize,
-}
 
 /// An item with its produce and its consume.
 #[derive(Clone, Copy)]
@@ -50,12 +34,16 @@ pub(crate) struct Window {
 
 impl Window {
     /// Returns the position by which the item was put in.
-    pub(crate) fn in_by(&self) -> usize {
+    pub(crate) fn in_by(&self) -> usize
+        ensures { result ≡ in_by self.now }
+    {
         self.put_last.min(self.take_last)
     }
 
     /// Returns the position from which the item may have been taken out.
-    pub(crate) fn out_from(&self) -> usize {
+    pub(crate) fn out_from(&self) -> usize
+        ensures { result ≡ out_from self.now }
+    {
         self.take_first.max(self.put_first)
     }
 }
@@ -65,82 +53,39 @@ impl Window {
 pub(crate) struct Windows {
     /// Those that were put in.
     pub(crate) list: Vec<Window>,
-    /// A consume that has no produce.
+    /// A consume that returned an item which was not produced by then.
     pub(crate) alone: Option<Place>,
+    /// Each item was put in and taken out at most once, and was produced when it was taken out.
+    pub(crate) distinct: bool,
 }
 
-/// Returns the item of a completed produce that took effect.
-fn put_item(call: &Call) -> Option<usize> {
-    match call.reply {
-        Reply::Done => produced_item(call.op),
-        Reply::Number(_) | Reply::Timeout => None,
-    }
-}
-
-/// Adds the pending produces.
-fn add_pending(puts: &mut Vec<Access>, calls: &Recorded) -> Result<(), AllocError> {
-    for (i, call) in calls.pending.iter().enumerate() {
-        if let Some(item) = produced_item(call.op) {
-            puts.push(Access {
-                item,
-                place: Place::Pending(i),
-                first: call.first,
-                last: NEVER,
-            })?;
-        }
-    }
-    Ok(())
-}
-
-/// Lists the produces by their items and responses.
-fn puts(alloc: Global, calls: &Recorded) -> Result<Vec<Access>, AllocError> {
-    let mut puts = Vec::new(alloc);
-    for (i, call) in calls.done.iter().enumerate() {
-        if let Some(item) = put_item(call) {
-            puts.push(Access {
-                item,
-                place: Place::Completed(i),
-                first: call.first,
-                last: call.last,
-            })?;
-        }
-    }
-    add_pending(&mut puts, calls)?;
-    puts.sort_by_key(|access| (access.item, access.last))?;
-    Ok(puts)
-}
-
-/// Lists the consumes that returned an item, by their items and responses.
-fn takes(alloc: Global, calls: &Recorded) -> Result<Vec<Access>, AllocError> {
-    let mut takes = Vec::new(alloc);
-    for (i, call) in calls.done.iter().enumerate() {
-        if let Some(item) = taken_item(call) {
-            takes.push(Access {
-                item,
-                place: Place::Completed(i),
-                first: call.first,
-                last: call.last,
-            })?;
-        }
-    }
-    takes.sort_by_key(|access| (access.item, access.last))?;
-    Ok(takes)
-}
-
-/// Returns an item with its produce and its consume.
-fn window_of(put: &Access, take: Option<&Access>) -> Window {
-    let (take_first, take_last) = match take {
-        Some(access) => (access.first, access.last),
-        None => (NEVER, NEVER),
-    };
+/// Returns the window of an item with this produce and this consume.
+fn told(put: &Access, take: &Access) -> Window
+    ensures { result ≡ told put.now take.now }
+{
     Window {
         item: put.item,
         put: put.place,
         put_first: put.first,
         put_last: put.last,
-        take: take.map(|access| access.place),
-        take_first,
-        take_last,
+        take: Some(take.place),
+        take_first: take.first,
+        take_last: take.last,
+    }
+}
+
+/// Returns the window of an item with this produce and no consume.
+fn untold(put: &Access, end: usize) -> Window
+    ensures { result ≡ untold end put.now }
+{
+    Window {
+        item: put.item,
+        put: put.place,
+        put_first: put.first,
+        put_last: put.last,
+        take: None,
+        take_first: end,
+        take_last: end,
     }
 }
 
@@ -153,8 +98,10 @@ fn skip(accesses: &[Access], from: usize, item: usize) -> usize {
     next
 }
 
-/// Pairs the produces of each item with its consumes.
-fn pair(alloc: Global, puts: &[Access], takes: &[Access]) -> Result<Windows, AllocError> {
+/// Pairs the produces of each item with its consumes, in their order.
+fn pair(alloc: Global, puts: &[Access], takes: &[Access], end: usize) -> Result<Windows, AllocError>
+    ensures { IfOk result (λ w. w.distinct ≡ false) }
+{
     let mut list = Vec::new(alloc);
     let mut alone = None;
     let mut next = 0;
@@ -164,22 +111,151 @@ fn pair(alloc: Global, puts: &[Access], takes: &[Access]) -> Result<Windows, All
             alone = takes.get(next).map(|take| take.place);
         }
         next = here;
-        let take = takes.get(next).filter(|take| take.item == put.item);
-        if take.is_some() {
-            next = next.saturating_add(1);
-        }
-        if take.is_some() || put.last < NEVER {
-            list.push(window_of(put, take))?;
+        match takes.get(next) {
+            Some(take) if take.item == put.item => {
+                next = next.saturating_add(1);
+                list.push(told(put, take))?;
+            }
+            _ => {
+                if put.last < end {
+                    list.push(untold(put, end))?;
+                }
+            }
         }
     }
     if let Some(take) = takes.get(next) {
         alone = Some(take.place);
     }
-    Ok(Windows { list, alone })
+    Ok(Windows {
+        list,
+        alone,
+        distinct: false,
+    })
 }
 
-/// Lists the items that were put in. Produces of one item are paired with its consumes in the order
-/// of their responses. A pending produce whose item nobody returned is left out.
-pub(crate) fn windows_of(alloc: Global, calls: &Recorded) -> Result<Windows, AllocError> {
-    pair(alloc, &puts(alloc, calls)?, &takes(alloc, calls)?)
+/// Pairs the produce of each item with its consume. Each item is produced and consumed once.
+fn paired(
+    alloc: Global,
+    puts: &[Access],
+    takes: &[Access],
+    end: usize,
+) -> Result<Vec<Window>, AllocError>
+    ensures { IfOk result (λ list. ByItem takes.now
+        → list.items ≡ window_list end takes.now puts.now) }
+{
+    let mut list = Vec::new(alloc);
+    for put in puts {
+        match find(takes, put.item) {
+            Some(take) => list.push(told(put, &take))?,
+            None => {
+                if put.last < end {
+                    list.push(untold(put, end))?;
+                }
+            }
+        }
+    }
+    Ok(list)
+}
+
+/// Returns whether a consume returned after its produce was invoked.
+fn fits(puts: &[Access], take: &Access) -> bool
+    ensures { ByItem puts.now → result ≡ fits puts.now take.now }
+{
+    match find(puts, take.item) {
+        Some(put) => put.first <= take.last,
+        None => false,
+    }
+}
+
+/// Returns the place of a consume that did not, if there is one.
+fn unfit(puts: &[Access], takes: &[Access]) -> Option<Place>
+    ensures { ByItem puts.now → MatchOption result
+        (Each (λ (t : Access). fits puts.now t ≡ true) takes.now) (IsUnfit puts.now takes.now) }
+{
+    for take in takes {
+        if !fits(puts, take) {
+            return Some(take.place);
+        }
+    }
+    None
+}
+
+/// Returns the place of the later one of two accesses.
+fn later(list: &[Access], i: usize) -> Place
+    requires low { 0 < i }
+    requires high { i < length list.now }
+    ensures { result ≡ later list.now i }
+{
+    if list[i - 1].last <= list[i].last {
+        list[i].place
+    } else {
+        list[i - 1].place
+    }
+}
+
+/// Pairs the produce of each item with its consume. No item is produced or consumed twice.
+fn pair_once(
+    alloc: Global,
+    puts: &[Access],
+    takes: &[Access],
+    end: usize,
+) -> Result<Windows, AllocError>
+    ensures list { IfOk result (λ w. ByItem takes.now
+        → w.list.items ≡ window_list end takes.now puts.now) }
+    ensures fit { IfOk result (λ w. ByItem puts.now → w.distinct ≡ true
+        → Each (λ (t : Access). fits puts.now t ≡ true) takes.now) }
+    ensures unfit { IfOk result (λ w. ByItem puts.now → w.distinct ≡ false
+        → MatchOption w.alone ⊥ (IsUnfit puts.now takes.now)) }
+{
+    let list = paired(alloc, puts, takes, end)?;
+    let alone = unfit(puts, takes);
+    let distinct = alone.is_none();
+    Ok(Windows {
+        list,
+        alone,
+        distinct,
+    })
+}
+
+/// Pairs produces with consumes, both sorted by their items.
+fn windows_from(
+    alloc: Global,
+    puts: &[Access],
+    takes: &[Access],
+    end: usize,
+) -> Result<Windows, AllocError>
+    ensures sound { IfOk result (λ w. ByItem puts.now → ByItem takes.now → IsTrue w.distinct
+        → ArePaired end puts.now takes.now w.list.items) }
+    ensures exact { IfOk result (λ w. ByItem puts.now → ByItem takes.now → w.distinct ≡ false
+        → AreNotPaired puts.now takes.now w.alone) }
+{
+    if let Some(_) = repeated(puts) {
+        let windows = pair(alloc, puts, takes, end)?;
+        return Ok(windows);
+    }
+    if let Some(i) = repeated(takes) {
+        let mut windows = pair(alloc, puts, takes, end)?;
+        windows.alone = Some(later(takes, i));
+        return Ok(windows);
+    }
+    let windows = pair_once(alloc, puts, takes, end)?;
+    Ok(windows)
+}
+
+/// Lists the items that were put in. What does not happen is at `end`. A pending produce whose item
+/// nobody returned is left out. Produces of one item are paired with its consumes in the order of
+/// their responses.
+pub(crate) fn windows_of(alloc: Global, calls: &Recorded, end: usize) -> Result<Windows, AllocError>
+    ensures sound { IfOk result (λ w. AreWithin end calls.now.done.items calls.now.pending.items
+        → IsTrue w.distinct
+        → AreWindows calls.now.done.items calls.now.pending.items end w.list.items) }
+    ensures exact { IfOk result (λ w.
+        ((v : ℕ) → all_puts (item v) calls.now.done.items calls.now.pending.items ≤ 1)
+        → w.distinct ≡ false
+        → MatchOption w.alone ⊥ (IsUnproduced calls.now.done.items calls.now.pending.items)) }
+{
+    let puts = puts(alloc, &calls.done, &calls.pending, end)?;
+    let takes = takes(alloc, &calls.done)?;
+    let windows = windows_from(alloc, &puts, &takes, end)?;
+    Ok(windows)
 }

@@ -15,6 +15,7 @@ use Rattle.calls_tickets.specs.declared.fault.Fault as tickets
 use Rattle.calls_tickets.specs.declared.fault.Fault.TheVariants as ticket
 use Rattle.calls_tickets.specs.Faults.{number}
 use Rattle.calls_semaphores.specs.declared.fault.Fault as units
+use Rattle.calls_buffers.specs.declared.fault.Fault as items
 use Rattle.calls_cells.specs.declared.outcome.Fault as cells
 use Rattle.calls_cells.specs.declared.outcome.Fault.TheVariants.{Distinct, Serial}
 use Rattle.calls_distinct.specs.declared.cell.Fault as distincts
@@ -98,7 +99,8 @@ ShowsFault r k events (faults.Count f) shown = shown ≡ count_certificate r k e
 ShowsFault r k events (faults.Ticket f) shown = shown ≡ ticket_certificate k events f
 ShowsFault r k events (faults.Units f) shown = shown ≡ unit_certificate r.heading events f
 ShowsFault r k events (faults.Value f) shown = IsValueCertificate f shown
-ShowsFault r k events (faults.Items f) shown = shown ≡ shows.Items f
+ShowsFault r k events (faults.Items f) shown =
+    (fault : Bor items.Fault) × (shown ≡ shows.Items fault) × (fault.now ≡ f)
 
 -- the certificate of a refusal: what the calls of the object show, up to the first faulty event
 abbrev pub IsCertificate : RecordingModel → Refusal → Certificate → Type 0

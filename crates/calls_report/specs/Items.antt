@@ -1,7 +1,8 @@
 -- The certificate of a buffer in words.
-use Rattle.std.specs.Prelude.{ℕ, ◌-◌, ◌==◌, List, [], ◌++◌, codes, decimal, slice_get}
+use Rattle.std.specs.Prelude.{ℕ, ◌-◌, ◌==◌, nat_le, List, [], ◌∷◌, ◌++◌, codes, decimal, slice_get}
 use Rattle.std.specs.Prelude.{if◌then◌else◌}
 use Rattle.std.specs.Option.{option_map_or}
+use Rattle.std.specs.List.{flat_map}
 use Rattle.ec_heading.specs.declared.group.Group.{Group}
 use Rattle.ec_heading.specs.declared.group.Group.TheVariants as groups
 use Rattle.calls_core.specs.declared.history.Op.{Op}
@@ -9,9 +10,11 @@ use Rattle.calls_core.specs.declared.history.Op.TheVariants.{Produce}
 use Rattle.calls_core.specs.declared.history.Reply.{Reply}
 use Rattle.calls_core.specs.declared.history.Reply.TheVariants.{Number}
 use Rattle.calls_core.specs.declared.history.Call.{Call}
+use Rattle.calls_schedule.specs.declared.job.Bound.{Bound}
 use Rattle.calls_buffers.specs.declared.fault.Fault.{Fault}
 use Rattle.calls_buffers.specs.declared.fault.Fault.TheVariants.{Unproduced, Overfull, Crowded}
 use Rattle.calls_buffers.specs.declared.fault.Fault.TheVariants.{Overtaken, Passed, Squeezed}
+use Rattle.calls_buffers.specs.declared.fault.Fault.TheVariants.{Overdue}
 use Rattle.calls_text.specs.Recordings.{first_group}
 use Rattle.calls_report.specs.Sites.{SiteModel, line_of}
 
@@ -102,6 +105,34 @@ squeezed_text s q p left pending =
     ++ decimal (put_item p.op) ++ codes ", put in once, by then, was not taken by line "
     ++ line_of s q.last
 
+-- how many items at most had been taken
+abbrev pub most_text : ℕ → List ℕ
+most_text n = codes ", so at most " ++ decimal n ++ codes " had"
+
+-- these, if they can be so few
+abbrev pub at_most : Bound → List ℕ
+at_most b = if nat_le b.jobs b.due then most_text (b.due - b.jobs) else []
+
+-- items that had not been taken before a line are among the first ones
+abbrev pub bound_text : SiteModel → Bound → List ℕ
+bound_text s b =
+    codes "of the first " ++ some b.due (codes "item") ++ codes ", " ++ decimal b.jobs
+    ++ codes " had not been taken before line " ++ line_of s b.at ++ at_most b
+
+abbrev pub next_bound : SiteModel → Bound → List ℕ
+next_bound s b = codes "; " ++ bound_text s b
+
+abbrev pub further_bounds : SiteModel → List Bound → List ℕ
+further_bounds s bs = flat_map (λ (b : Bound). next_bound s b) bs
+
+abbrev pub chain_text : SiteModel → Bound → List Bound → List ℕ
+chain_text s b bs = bound_text s b ++ further_bounds s bs
+
+-- the items have to be among more of the first ones than there can be
+abbrev pub overdue_text : SiteModel → List Bound → List ℕ
+overdue_text s [] = []
+overdue_text s (b ∷ bs) = chain_text s b bs
+
 -- what the calls of a buffer show
 abbrev pub item_text : SiteModel → Fault → List ℕ
 item_text s (Unproduced c taken put) = unproduced_text s c taken put
@@ -110,3 +141,4 @@ item_text s (Crowded c left pending) = crowded_text s c left pending
 item_text s (Overtaken p c before later all) = overtaken_text s p c before later all
 item_text s (Passed p c left pending) = passed_text s p c left pending
 item_text s (Squeezed q p left pending) = squeezed_text s q p left pending
+item_text s (Overdue bounds) = overdue_text s bounds.items

@@ -264,4 +264,4 @@ certificate_text s (shows.Nowhere c) = nowhere_text s c
 certificate_text s (shows.Stale c d) = stale_text s c d
 certificate_text s (shows.Alternate a b c d) = alternate_text s a b c d
 certificate_text s (shows.NoneLeft gets) = none_left_text s gets.now
-certificate_text s (shows.Items f) = item_text s f
+certificate_text s (shows.Items f) = item_text s f.now

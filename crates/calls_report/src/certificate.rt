@@ -60,7 +60,7 @@ pub enum Certificate<'a> {
     /// No put is left for the first of these gets, since the others need them.
     NoneLeft(&'a [Call]),
     /// The calls of a buffer show this.
-    Items(calls_buffers::Fault),
+    Items(&'a calls_buffers::Fault),
 }
 
 /// Returns how many advances of an object lie between two positions.
@@ -220,6 +220,6 @@ pub(crate) fn certify<'a>(
         Fault::Ticket(fault) => of_ticket(alloc, events, object, fault),
         Fault::Units(fault) => of_units(alloc, recording.heading(), events, fault),
         Fault::Value(fault) => Ok(of_value(fault)),
-        Fault::Items(fault) => Ok(Certificate::Items(*fault)),
+        Fault::Items(fault) => Ok(Certificate::Items(fault)),
     }
 }

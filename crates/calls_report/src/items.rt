@@ -5,10 +5,13 @@ ghost use Rattle.calls_report.specs.Items.{room_of, room_in, some, by_line, put_
 ghost use Rattle.calls_report.specs.Items.{room_text, pending_text, unproduced_text};
 ghost use Rattle.calls_report.specs.Items.{overfull_text, crowded_text, counts_text, of_all};
 ghost use Rattle.calls_report.specs.Items.{overtaken_text, passed_text, squeezed_text, item_text};
+ghost use Rattle.calls_report.specs.Items.{most_text, at_most, bound_text, next_bound};
+ghost use Rattle.calls_report.specs.Items.{further_bounds, chain_text, overdue_text};
 
 use crate::refusal::Site;
 use calls_buffers::Fault;
 use calls_core::{Call, Op, Reply};
+use calls_schedule::Bound;
 use calls_text::first_group;
 use ec_heading::Group;
 use ec_text::Output;
@@ -264,40 +267,106 @@ fn put_squeezed<W: Write>(
     site.put_line(out, full.last);
 }
 
+/// Puts how many items at most had been taken.
+fn put_most<W: Write>(out: &mut Output<'_, W>, n: usize)
+    ensures { Puts out.old out.new (most_text n) }
+{
+    out.put(b", so at most ");
+    out.put_number(n as u64);
+    out.put(b" had");
+}
+
+/// Puts how many items at most had been taken, if they can be so few.
+fn put_at_most<W: Write>(out: &mut Output<'_, W>, bound: &Bound)
+    ensures { Puts out.old out.new (at_most bound.now) }
+{
+    if bound.jobs <= bound.due {
+        put_most(out, bound.due - bound.jobs);
+    }
+}
+
+/// Puts that items that had not been taken before a line are among the first ones.
+fn put_bound<W: Write>(out: &mut Output<'_, W>, site: &Site<'_>, bound: &Bound)
+    ensures { Puts out.old out.new (bound_text site.now bound.now) }
+{
+    out.put(b"of the first ");
+    put_some(out, bound.due, b"item");
+    out.put(b", ");
+    out.put_number(bound.jobs as u64);
+    out.put(b" had not been taken before line ");
+    site.put_line(out, bound.at);
+    put_at_most(out, bound);
+}
+
+/// Puts a bound after a semicolon.
+fn put_next_bound<W: Write>(out: &mut Output<'_, W>, site: &Site<'_>, bound: &Bound)
+    ensures { Puts out.old out.new (next_bound site.now bound.now) }
+{
+    out.put(b"; ");
+    put_bound(out, site, bound);
+}
+
+/// Puts bounds, each after a semicolon.
+fn put_further<W: Write>(out: &mut Output<'_, W>, site: &Site<'_>, bounds: &[Bound])
+    ensures { Puts out.old out.new (further_bounds site.now bounds.now) }
+{
+    for bound in bounds {
+        put_next_bound(out, site, bound);
+    }
+}
+
+/// Puts a bound, and further ones, each after a semicolon.
+fn put_chain<W: Write>(out: &mut Output<'_, W>, site: &Site<'_>, first: &Bound, further: &[Bound])
+    ensures { Puts out.old out.new (chain_text site.now first.now further.now) }
+{
+    put_bound(out, site, first);
+    put_further(out, site, further);
+}
+
+/// Puts that items have to be among more of the first ones than there can be.
+fn put_overdue<W: Write>(out: &mut Output<'_, W>, site: &Site<'_>, bounds: &[Bound])
+    ensures { Puts out.old out.new (overdue_text site.now bounds.now) }
+{
+    if let [first, further @ ..] = bounds {
+        put_chain(out, site, first, further);
+    }
+}
+
 /// Puts what the calls of a buffer show.
 pub(crate) fn put_items<W: Write>(out: &mut Output<'_, W>, site: &Site<'_>, fault: &Fault)
     ensures { Puts out.old out.new (item_text site.now fault.now) }
 {
-    match *fault {
+    match fault {
         Fault::Unproduced {
             consume,
             taken,
             put,
-        } => put_unproduced(out, site, &consume, taken, put),
-        Fault::Overfull { call, put, taken } => put_overfull(out, site, &call, put, taken),
+        } => put_unproduced(out, site, consume, *taken, *put),
+        Fault::Overfull { call, put, taken } => put_overfull(out, site, call, *put, *taken),
         Fault::Crowded {
             call,
             left,
             pending,
-        } => put_crowded(out, site, &call, left, pending),
+        } => put_crowded(out, site, call, *left, *pending),
         Fault::Overtaken {
             put,
             consume,
             before,
             later,
             all,
-        } => put_overtaken(out, site, &put, &consume, before, later, all),
+        } => put_overtaken(out, site, put, consume, *before, *later, *all),
         Fault::Passed {
             put,
             consume,
             left,
             pending,
-        } => put_passed(out, site, &put, &consume, left, pending),
+        } => put_passed(out, site, put, consume, *left, *pending),
         Fault::Squeezed {
             full,
             put,
             left,
             pending,
-        } => put_squeezed(out, site, &full, &put, left, pending),
+        } => put_squeezed(out, site, full, put, *left, *pending),
+        Fault::Overdue { bounds } => put_overdue(out, site, bounds),
     }
 }

@@ -634,7 +634,7 @@ impl<'a> Site<'a> {
             Certificate::Stale(earlier, call) => self.put_stale(out, &earlier, &call),
             Certificate::Alternate(a, b, c, d) => self.put_alternate(out, &a, &b, &c, &d),
             Certificate::NoneLeft(gets) => self.put_none_left(out, gets),
-            Certificate::Items(fault) => put_items(out, self, &fault),
+            Certificate::Items(fault) => put_items(out, self, fault),
         }
     }
 }

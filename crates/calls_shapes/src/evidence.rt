@@ -35,13 +35,17 @@ fn list_calls(alloc: Global, calls: &[Call]) -> Result<Vec<Call>, AllocError>
 fn item_calls(alloc: Global, fault: &calls_buffers::Fault) -> Result<Vec<Call>, AllocError>
     ensures { IfOk result (λ v. v.items ≡ item_calls fault.now) }
 {
-    match *fault {
-        calls_buffers::Fault::Unproduced { consume, .. } => list_calls(alloc, &[consume]),
-        calls_buffers::Fault::Overfull { call, .. } => list_calls(alloc, &[call]),
-        calls_buffers::Fault::Crowded { call, .. } => list_calls(alloc, &[call]),
-        calls_buffers::Fault::Overtaken { put, consume, .. } => list_calls(alloc, &[put, consume]),
-        calls_buffers::Fault::Passed { put, consume, .. } => list_calls(alloc, &[put, consume]),
-        calls_buffers::Fault::Squeezed { full, put, .. } => list_calls(alloc, &[full, put]),
+    match fault {
+        calls_buffers::Fault::Unproduced { consume, .. } => list_calls(alloc, &[*consume]),
+        calls_buffers::Fault::Overfull { call, .. } => list_calls(alloc, &[*call]),
+        calls_buffers::Fault::Crowded { call, .. } => list_calls(alloc, &[*call]),
+        calls_buffers::Fault::Overtaken { put, consume, .. } => list_calls(
+            alloc,
+            &[*put, *consume],
+        ),
+        calls_buffers::Fault::Passed { put, consume, .. } => list_calls(alloc, &[*put, *consume]),
+        calls_buffers::Fault::Squeezed { full, put, .. } => list_calls(alloc, &[*full, *put]),
+        calls_buffers::Fault::Overdue { .. } => Ok(Vec::new(alloc)),
     }
 }
 

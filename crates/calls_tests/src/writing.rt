@@ -1,5 +1,6 @@
 //! Writes the result for a history.
 use calls_core::{Call, Op, Placed, Reply};
+use calls_schedule::Bound;
 use calls_verdict::{Cause, Fault, Misuse, Refusal, Undecided, Verdict};
 use std::io;
 use std::io::Write;
@@ -100,17 +101,27 @@ fn write_value<W: Write>(out: &mut W, fault: &calls_cells::Fault) -> io::Result<
     }
 }
 
+/// Writes bounds on how many items were taken.
+fn write_bounds<W: Write>(out: &mut W, bounds: &[Bound]) -> io::Result<()> {
+    write!(out, "overdue")?;
+    for bound in bounds {
+        write!(out, " {}:{}/{}", bound.at, bound.jobs, bound.due)?;
+    }
+    writeln!(out)
+}
+
 /// Writes a fault of a buffer.
-fn write_items<W: Write>(out: &mut W, fault: calls_buffers::Fault) -> io::Result<()> {
+fn write_items<W: Write>(out: &mut W, fault: &calls_buffers::Fault) -> io::Result<()> {
     use calls_buffers::Fault;
 
     match fault {
-        Fault::Unproduced { consume, .. } => write_named(out, "unproduced", &[consume]),
-        Fault::Overfull { call, .. } => write_named(out, "overfull", &[call]),
-        Fault::Crowded { call, .. } => write_named(out, "crowded", &[call]),
-        Fault::Overtaken { put, consume, .. } => write_named(out, "overtaken", &[put, consume]),
-        Fault::Passed { put, consume, .. } => write_named(out, "passed", &[put, consume]),
-        Fault::Squeezed { full, put, .. } => write_named(out, "squeezed", &[full, put]),
+        Fault::Unproduced { consume, .. } => write_named(out, "unproduced", &[*consume]),
+        Fault::Overfull { call, .. } => write_named(out, "overfull", &[*call]),
+        Fault::Crowded { call, .. } => write_named(out, "crowded", &[*call]),
+        Fault::Overtaken { put, consume, .. } => write_named(out, "overtaken", &[*put, *consume]),
+        Fault::Passed { put, consume, .. } => write_named(out, "passed", &[*put, *consume]),
+        Fault::Squeezed { full, put, .. } => write_named(out, "squeezed", &[*full, *put]),
+        Fault::Overdue { bounds } => write_bounds(out, bounds.as_slice()),
     }
 }
 
@@ -126,7 +137,7 @@ fn write_refusal<W: Write>(out: &mut W, refusal: &Refusal) -> io::Result<()> {
             writeln!(out)
         }
         Fault::Value(fault) => write_value(out, fault),
-        Fault::Items(fault) => write_items(out, *fault),
+        Fault::Items(fault) => write_items(out, fault),
     }
 }
 

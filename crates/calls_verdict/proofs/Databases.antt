@@ -19,7 +19,7 @@ decision : (n : ℕ) (events : List Event) (t : ℕ) (d : Decision) → IsDecisi
     → IsDecision (Database n) events t d
 decision n events t (Ordered cs) h = h
 decision n events t (Refused i f) h = first_fault _ n events i h
-decision n events t (Open i u) h = first_fault _ n events i h
+decision n events t (Open i u) h = (first_fault _ n events i h.0, h.1)
 
 -- what is decided of the cell holds of the database
 pub database_decision : {E : Type 0} (n : ℕ) (events : List Event) (t : ℕ) (r : Result Decision E)

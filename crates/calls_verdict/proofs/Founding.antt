@@ -30,7 +30,7 @@ use Rattle.calls_verdict.specs.declared.verdict.Verdict.TheVariants.{NotDecided}
 use Rattle.calls_verdict.specs.declared.verdict.Decision.TheVariants as decision
 use Rattle.calls_verdict.specs.declared.findings.Findings.{Findings}
 use Rattle.calls_verdict.specs.Faults.{Shows, ShowsUndecided, IsDecided}
-use Rattle.calls_verdict.specs.Verdicts.{IsDecision, IsCleanBefore, IsOrderedBefore, IsVerdict}
+use Rattle.calls_verdict.specs.Verdicts.{IsHard, IsDecision, IsCleanBefore, IsOrderedBefore, IsVerdict}
 use Rattle.calls_verdict.specs.Verdicts.{IsOrdered, IsClear, AreClear}
 use Rattle.calls_verdict.specs.kept.Findings.{limit, IsRefused, IsOpen, ArePlaced}
 use Rattle.calls_verdict.specs.kept.Findings.{AreFound, IsEarlier}
@@ -208,8 +208,8 @@ module _ (kinds : List Kind) (past : List Event) (h : IsHistory kinds past) wher
             (let same : limit (clock past) new.refusal ≡ limit (clock past) old.refusal =
             ap (limit (clock past)) refused in omega arith)
             f.clear (λ m le. subst (λ q. IsClear kind (until m q)) mine
-            (clear_up_to kind own i d of_kind l.within u m (subst (λ q. ShowsUndecided kind q u)
-            (past_next own i d l.within) l.shows) (l.before i (omega arith))));
+            (clear_up_to kind own i d of_kind l.0.within u m (subst (λ q. ShowsUndecided kind q u)
+            (past_next own i d l.0.within) l.0.shows) (l.0.before i (omega arith))));
         refused = subst (IsRefused kinds past) (sym refused) f.refused;
         undecided = subst (IsOpen kinds past) (sym undecided) (elim first [
           | inl e ↦ subst (IsOpen kinds past) e f.undecided
@@ -217,8 +217,9 @@ module _ (kinds : List Kind) (past : List Event) (h : IsHistory kinds past) wher
             kind = kind;
             is = is;
             shows = subst (λ q. ShowsUndecided kind q u) mine
-                (whole_shows kind own i d of_kind l.within u (subst (λ q. ShowsUndecided kind q u)
-                (past_next own i d l.within) l.shows));
+                (whole_shows kind own i d of_kind l.0.within u (subst (λ q. ShowsUndecided kind q u)
+                (past_next own i d l.0.within) l.0.shows));
+            hard = subst (IsHard kind (clock past)) mine l.1;
           })
         ]);
         placed = λ a b. absurd (none-some kept (sym b ∙ undecided));

@@ -1,5 +1,5 @@
 -- What a verdict on a history says.
-use Rattle.std.specs.Prelude.{◌≡◌, ◌⊎◌, ℕ, ◌+◌, ◌<◌, ◌≤◌, List, length, reverse, Some, slice_get}
+use Rattle.std.specs.Prelude.{◌≡◌, ◌⊎◌, ℕ, ◌+◌, ◌<◌, ◌≤◌, ◌^◌, List, length, reverse, Some, slice_get}
 use Rattle.calls_core.specs.declared.history.Kind.{Kind}
 use Rattle.calls_core.specs.declared.history.Kind.TheVariants.{Buffer}
 use Rattle.calls_core.specs.declared.history.Event.{Event}
@@ -9,6 +9,7 @@ use Rattle.calls_core.specs.Linearizations.{IsRun, start, IsAnsweredLinearizatio
 use Rattle.calls_core.specs.Points.{IsPlacedOrder}
 use Rattle.calls_core.specs.Beginnings.{past_at, until}
 use Rattle.calls_core.specs.Outcomes.{IsOrderOf, HasOrderOf, IsFirstFault}
+use Rattle.calls_buffers.specs.Outcomes.{IsSimple}
 use Rattle.calls_verdict.specs.declared.verdict.Fault.{Fault}
 use Rattle.calls_verdict.specs.declared.verdict.Cause.{Cause}
 use Rattle.calls_verdict.specs.declared.verdict.Undecided.{Undecided}
@@ -26,12 +27,18 @@ IsRefusedAt (Buffer n) events i f =
     (i < length events) × Shows (Buffer n) (past_at (i + 1) events) f
 IsRefusedAt kind events i f = IsFirstFault (λ past. Shows kind past f) kind events i
 
+-- if the object is a buffer, its calls are not of the class that is always decided, unless t is the
+-- last position of all
+abbrev pub IsHard : Kind → ℕ → List Event → Type 0
+IsHard (Buffer n) t past = t + 1 < 2 ^ 64 → IsSimple n past → ⊥
+IsHard kind t past = Unit {0}
+
 -- what a decision on the calls of one object says
 abbrev pub IsDecision : Kind → List Event → ℕ → Decision → Type 0
 IsDecision kind events t (decision.Ordered cs) = IsOrderOf kind (reverse events) t cs
 IsDecision kind events t (decision.Refused i f) = IsRefusedAt kind events i f
-IsDecision kind events t (decision.Open i u) = IsFirstFault (λ past.
-    ShowsUndecided kind past u) kind events i
+IsDecision kind events t (decision.Open i u) =
+    IsFirstFault (λ past. ShowsUndecided kind past u) kind events i × IsHard kind t (reverse events)
 
 -- the events of object k show the fault
 pub record HasFault (kinds : List Kind) (past : List Event) (k : ℕ) (f : Fault) : Type 0 where
@@ -50,6 +57,7 @@ pub record HasOpen (kinds : List Kind) (past : List Event) (u : Undecided) : Typ
   pub kind : Kind
   pub is : slice_get kinds u.object ≡ Some kind
   pub shows : ShowsUndecided kind (part u.object past) u.cause
+  pub hard : IsHard kind (clock past) (part u.object past)
 
 -- each object of the history is decided
 abbrev pub AreDecided : List Kind → List Event → Type 0

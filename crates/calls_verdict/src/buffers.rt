@@ -4,7 +4,7 @@ ghost use Rattle.calls_core.specs.declared.history.Kind.TheVariants.{Buffer};
 ghost use Rattle.calls_core.specs.Histories.{IsHistoryOf, clock};
 ghost use Rattle.calls_core.specs.Beginnings.{past_at};
 ghost use Rattle.calls_buffers.specs.Faults.{Shows};
-ghost use Rattle.calls_verdict.specs.Verdicts.{IsDecision};
+ghost use Rattle.calls_verdict.specs.Verdicts.{IsHard, IsDecision};
 
 use crate::verdict::{Cause, Decision, Fault};
 use calls_core::{Part, PlacedCalls};
@@ -64,6 +64,7 @@ fn leave_open(
     requires history { IsHistoryOf (Buffer room) (reverse events.now) }
     requires late { clock (reverse events.now) ≤ end }
     requires some { 0 < length events.now }
+    requires hard { IsHard (Buffer room) end (reverse events.now) }
     ensures { IfOk result (IsDecision (Buffer room) events.now end) }
 {
     let mut low = 0;

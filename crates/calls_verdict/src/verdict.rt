@@ -17,7 +17,7 @@ pub enum Fault {
 }
 
 /// A faulty event of a history, the first one if no buffer is called. A fault of a buffer may be
-/// found late, or not at all.
+/// found late.
 #[derive(Debug, Drop)]
 pub struct Refusal {
     /// The position of the event.
@@ -34,7 +34,8 @@ pub enum Cause {
     /// Of a cell or a database: these of its calls are the reason.
     Values(calls_cells::Undecided),
     /// Of a buffer: its events before this position have a linearization. With the event at this
-    /// position neither one nor a fault was found, which the contract does not say.
+    /// position neither one nor a fault was found, which the contract does not say. An item was put
+    /// in twice, or a pending consume may have taken one.
     Unfound(usize),
 }
 

@@ -181,6 +181,8 @@ remedy causes.Unsuited =
     ++ codes "consume a number, snapshot a number for each cell."
 remedy causes.CallLimit = codes "Raise the limit in the second line of the history."
 remedy causes.NoOrder = codes "Look in the program for what these calls do; evc-draw draws them."
-remedy causes.NotDecided = codes "Record puts of different values, and none of 0."
+remedy causes.NotDecided =
+    codes "Record puts of different values, and none of 0; of a buffer different items, and "
+    ++ codes "no pending consume."
 remedy causes.TurnOfEnded = codes "Remove the turn, or give the worker more commands."
 remedy causes.Other = codes "Look into docs/REFERENCE.md, or the manual page evc-trace."

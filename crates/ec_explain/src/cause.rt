@@ -341,7 +341,9 @@ impl Cause {
                   consume a number, snapshot a number for each cell.",
             Cause::CallLimit => b"Raise the limit in the second line of the history.",
             Cause::NoOrder => b"Look in the program for what these calls do; evc-draw draws them.",
-            Cause::NotDecided => b"Record puts of different values, and none of 0.",
+            Cause::NotDecided =>
+                b"Record puts of different values, and none of 0; of a buffer different items, and \
+                  no pending consume.",
             Cause::TurnOfEnded => b"Remove the turn, or give the worker more commands.",
             Cause::Other => b"Look into docs/REFERENCE.md, or the manual page evc-trace.",
         }

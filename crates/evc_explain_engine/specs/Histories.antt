@@ -4,6 +4,9 @@ use Rattle.std.specs.Prelude.{take, codes, Ok, Option, Some, None, if◌then◌e
 use Rattle.std.specs.List.{flat_map}
 use Rattle.calls_core.specs.declared.history.Call.{Call}
 use Rattle.calls_core.specs.declared.history.Placed.{Placed}
+use Rattle.calls_schedule.specs.declared.job.Bound.{Bound}
+use Rattle.calls_buffers.specs.declared.fault.Fault as items
+use Rattle.calls_buffers.specs.declared.fault.Fault.TheVariants as item
 use Rattle.calls_cells.specs.declared.outcome.Fault as cells
 use Rattle.calls_cells.specs.declared.outcome.Fault.TheVariants as cell
 use Rattle.calls_counts.specs.declared.fault.Fault as counts
@@ -52,9 +55,29 @@ if_before at position = if nat_lt position at then position ∷ [] else []
 abbrev pub ends_before : ℕ → Call → List ℕ
 ends_before at c = if_before at c.first ++ if_before at c.last
 
--- the positions of the events of the calls that a refusal names, before the first faulty event
+-- the bounds that a fault names
+abbrev pub item_bounds : items.Fault → List Bound
+item_bounds (item.Unproduced c taken put) = []
+item_bounds (item.Overfull c put taken) = []
+item_bounds (item.Crowded c left pending) = []
+item_bounds (item.Overtaken p c before later all) = []
+item_bounds (item.Passed p c left pending) = []
+item_bounds (item.Squeezed q p left pending) = []
+item_bounds (item.Overdue bounds) = bounds.items
+
+abbrev pub bounds_of : Fault → List Bound
+bounds_of (faults.Count f) = []
+bounds_of (faults.Ticket f) = []
+bounds_of (faults.Units f) = []
+bounds_of (faults.Value f) = []
+bounds_of (faults.Items f) = item_bounds f
+
+-- the positions of the events of the calls that a refusal names, and of its bounds, before the
+-- first faulty event
 abbrev pub named_positions : Refusal → List ℕ
-named_positions x = flat_map (ends_before x.at) (faulty_calls x.fault)
+named_positions x =
+    flat_map (ends_before x.at) (faulty_calls x.fault)
+    ++ flat_map (λ (b : Bound). if_before x.at b.at) (bounds_of x.fault)
 
 -- the first 20 of some positions
 abbrev pub few : List ℕ → List ℕ

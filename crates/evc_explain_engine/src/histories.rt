@@ -12,11 +12,14 @@ ghost use Rattle.evc_explain_engine.specs.Histories.{seen_lines, count_reason, t
 ghost use Rattle.evc_explain_engine.specs.Histories.{distinct_reason, reason_for, ExplainsRefused};
 ghost use Rattle.evc_explain_engine.specs.Histories.{ExplainsUndecided, Judges, ExplainsHistories, IsUnread};
 ghost use Rattle.evc_explain_engine.specs.Histories.{open_position, first_put};
+ghost use Rattle.evc_explain_engine.specs.Histories.{item_bounds, bounds_of};
+ghost use Rattle.calls_schedule.specs.declared.job.Bound.{Bound};
 
 use crate::explanation::{Explanation, explain_finding, whole};
 use crate::good::ordered_bytes;
 use calls_core::Call;
 use calls_report::{report_refusal, report_undecided};
+use calls_schedule::Bound;
 use calls_shapes::faulty_calls;
 use calls_text::{Read, Recording, TextFault, read_history};
 use calls_verdict::{Fault, Refusal, Undecided, Verdict, decide};
@@ -64,13 +67,56 @@ fn ends_of(alloc: Global, at: usize, calls: &[Call]) -> Result<Vec<usize>, Alloc
     Ok(positions)
 }
 
-/// Returns the positions of the events of the calls that a refusal names, before the first faulty
-/// event.
+/// Returns those of the positions of bounds that are before `at`.
+fn bounds_before(alloc: Global, at: usize, bounds: &[Bound]) -> Result<Vec<usize>, AllocError>
+    ensures { IfOk result (λ ps. ps.items ≡ flat_map (λ (b : Bound). if_before at b.at)
+        bounds.now) }
+{
+    let mut positions = Vec::new(alloc);
+    for bound in bounds {
+        add_if_before(&mut positions, at, bound.at)?;
+    }
+    Ok(positions)
+}
+
+/// Returns the bounds that a fault of a buffer names.
+fn item_bounds(fault: &calls_buffers::Fault) -> &[Bound]
+    ensures { result.now ≡ item_bounds fault.now }
+{
+    match fault {
+        calls_buffers::Fault::Unproduced { .. } => &[],
+        calls_buffers::Fault::Overfull { .. } => &[],
+        calls_buffers::Fault::Crowded { .. } => &[],
+        calls_buffers::Fault::Overtaken { .. } => &[],
+        calls_buffers::Fault::Passed { .. } => &[],
+        calls_buffers::Fault::Squeezed { .. } => &[],
+        calls_buffers::Fault::Overdue { bounds } => bounds,
+    }
+}
+
+/// Returns the bounds that a fault names.
+fn bounds_of(fault: &Fault) -> &[Bound]
+    ensures { result.now ≡ bounds_of fault.now }
+{
+    match fault {
+        Fault::Count(_) => &[],
+        Fault::Ticket(_) => &[],
+        Fault::Units(_) => &[],
+        Fault::Value(_) => &[],
+        Fault::Items(fault) => item_bounds(fault),
+    }
+}
+
+/// Returns the positions of the events of the calls that a refusal names, and of its bounds, before
+/// the first faulty event.
 fn named_positions(alloc: Global, refusal: &Refusal) -> Result<Vec<usize>, AllocError>
     ensures { IfOk result (λ ps. ps.items ≡ named_positions refusal.now) }
 {
     let calls = faulty_calls(alloc, &refusal.fault)?;
-    ends_of(alloc, refusal.at, calls.as_slice())
+    let mut positions = ends_of(alloc, refusal.at, calls.as_slice())?;
+    let bounds = bounds_before(alloc, refusal.at, bounds_of(&refusal.fault))?;
+    positions.extend_from_slice(bounds.as_slice())?;
+    Ok(positions)
 }
 
 /// Returns the first 20 of some positions.

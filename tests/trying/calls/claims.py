@@ -1,5 +1,7 @@
 """Checks by counting what a note on a history without a linearization claims, and that it excludes a linearization."""
 
+import re
+
 from trying.calls.notes import OF_BUFFERS, OPEN, said_in
 from trying.calls.orders import text_of_reply
 from trying.calls.search import fault_by_search, search
@@ -21,6 +23,7 @@ from trying.calls.theorems import (
 )
 from trying.calls.verdict import judge
 from trying.counting import Fault, need
+from trying.verdicts.chains import is_chain, is_decided, windows_of
 
 
 def note_faults(history, verdict, note):
@@ -69,10 +72,22 @@ def check_unfound(history, words):
     need(part is not None and part.kind == "buffer", f"{words['B']} is no buffer with calls")
     other = judge(history, but_buffers=True)
     need(other.name != "refused", "another object shows a fault")
+    need(not is_decided(*accesses(part.calls)), "the buffer is of the decided class")
     position, fault = int(words["from"]) - history.first_line, fault_by_search(part)
     need(fault is None or position <= fault, "there is a fault before that line")
     ends = [at for call in part.calls for at in (call.first, call.last)]
     need(position in ends, "the line is of another object")
+
+
+def accesses(calls):
+    """Returns the produces and the consumes that may have taken effect, and whether a consume is pending."""
+    puts = [one for one in calls if one.op[0] == "produce" and one.reply != "timeout"]
+    takes = [one for one in calls if one.op[0] == "consume" and one.reply not in (None, "timeout")]
+    return (
+        [(one.op[1], one.first, one.last) for one in puts],
+        [(one.reply, one.first, one.last) for one in takes],
+        any(one.op[0] == "consume" and one.last is None for one in calls),
+    )
 
 
 def ordinal(number):
@@ -408,3 +423,13 @@ class Claim:
         asking = self.pending_takes(other.last)
         need(self.room() + asking <= inside, "there is room")
         self.counts(words, item=other.op[1], left=inside, pending=asking)
+
+    def overdue(self, words):
+        """Checks the bounds: each follows from those before it, and only the last one is of more items than there are."""
+        bounds = []
+        for text in words["bounds"].split("; "):
+            due, items, line, *most = map(int, re.findall("[0-9]+", text))
+            need(most == ([] if due < items else [due - items]), f"{due - items} of {due} are left")
+            bounds.append((line - self.history.first_line, items, due))
+        windows = windows_of(*accesses(self.calls))
+        need(is_chain(windows, self.room(), bounds, self.at + 1), "a bound does not follow")

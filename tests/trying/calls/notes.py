@@ -25,6 +25,10 @@ def some(name, noun):
 BY_LINE = f"by line (?P<one>{NUMBER}), "
 ROOM = f"room for (?P<room>{NUMBER})"
 ASKING = f"with (?P<pending>{NUMBER}) of these pending and {ROOM}"
+BOUND = (
+    f"of the first (?:1 item|(?!1 ){NUMBER} items), {NUMBER} had not been taken before line {NUMBER}"
+    f"(?:, so at most {NUMBER} had)?"
+)
 HELD = f"(?P<X>[^ ]+) returned (?P<value>{VALUE})"
 
 # The forms of notes on histories: the name of the form, and all after `line N: `. The notes on what is
@@ -62,13 +66,14 @@ NOTES = {
     f" with (?P<pending>{NUMBER}) of these pending",
     "squeezed": f"{BY_LINE}{some('left', 'item')} had been put in that no consume called by line (?P<other>{NUMBER})"
     f" has returned, {ASKING}; and (?P<item>{NUMBER}), put in once, by then, was not taken by line (?P=one)",
+    "overdue": f"(?P<bounds>{BOUND}(?:; {BOUND})*)",
     "unfound": f"(?P<B>[^ ]+) is not decided from line (?P<from>{NUMBER}) on",
     "undecided": f"(?P<X>[^ ]+) is not decided: (?P<value>{VALUE}) was (?P<put>put|written)"
     f" more than once, and the (?P<puts>puts|writes) of lines (?P<one>{NUMBER})"
     f" and (?P<other>{NUMBER}) overlap",
 }
 OPEN = "undecided", "unfound"
-OF_BUFFERS = "unproduced", "overfull", "crowded", "overtaken", "passed", "squeezed"
+OF_BUFFERS = "unproduced", "overfull", "crowded", "overtaken", "passed", "squeezed", "overdue"
 NOTE = re.compile(f"(?:line (?P<N>{NUMBER}): )?(?P<rest>.*)")
 
 

@@ -88,6 +88,6 @@ def faults_of_certificate(lines, shown, note):
     faults = [] if note in shown and shown[0] == b"line %s:" % at else [f"notes another certificate than {note}"]
     if shown[1] != b"    " + plain(lines[int(at) - 1])[:100]:
         faults.append(f"shows another line: {shown[1]}")
-    if len(seen) < 18 and not set(named) <= {*seen, int(at)}:
+    if len(seen) < 18 and not {it for it in named if it < int(at)} <= {*seen}:
         faults.append(f"shows not all lines that are named: {note}")
     return faults + [f"sees {it}" for it in seen if seen[it] != plain(lines[it - 1])[:100]]

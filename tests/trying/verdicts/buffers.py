@@ -1,7 +1,21 @@
 """What the certificate of a fault of a buffer says of its calls, by counting, and what an undecided one leaves open."""
 
 from trying.verdicts.brute import Calls, is_linearizable
+from trying.verdicts.chains import is_chain, is_decided, windows_of
 from trying.verdicts.histories import kept
+
+
+def accesses(calls):
+    """Returns the produces and the consumes that may have taken effect, and whether a consume is pending."""
+    puts = [(c[2][1], c[4], c[5]) for c in calls if c[2][0] == "produce" and c[3] != "timeout"]
+    takes = [(c[3], c[4], c[5]) for c in calls if c[2][0] == "consume" and c[3] not in (None, "timeout")]
+    return puts, takes, any(c[2][0] == "consume" and c[5] is None for c in calls)
+
+
+def shows_bounds(calls, room, words, end):
+    """Whether these words, each POSITION:ITEMS/DUE, are bounds that leave the items no order."""
+    bounds = [tuple(int(n) for n in word.replace("/", ":").split(":")) for word in words]
+    return is_chain(windows_of(*accesses(calls)), room, bounds, end)
 
 
 def shows_of_buffer(calls, room, name, a, b):
@@ -38,5 +52,7 @@ def shows_of_buffer(calls, room, name, a, b):
 
 def undecided_faults(kind, events, k, at):
     """What is wrong with a buffer k that is undecided from this position on."""
+    if is_decided(*accesses([c for c in Calls(None, events).calls if c[1] == k])):
+        return "undecided, and the buffer is of the decided class"
     own = kept([c for c in Calls(None, events[:at]).calls if c[1] == k], lambda call: True)
     return None if is_linearizable([kind], own) else f"undecided from {at} on, but faulty before"

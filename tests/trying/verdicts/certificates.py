@@ -1,7 +1,7 @@
 """Checks by counting what the certificate of a fault says of a history of calls."""
 
 from trying.verdicts.brute import Calls, is_linearizable
-from trying.verdicts.buffers import shows_of_buffer
+from trying.verdicts.buffers import shows_bounds, shows_of_buffer
 from trying.verdicts.histories import kept
 
 
@@ -20,6 +20,8 @@ def most(op, reply):
 def certificate_faults(kinds, events, at, k, name, words):
     """Returns what is wrong with a certificate: the fault that the events up to position `at` have on object k."""
     calls = [c for c in Calls(kinds, events[: at + 1]).calls if c[1] == k]
+    if name == "overdue":
+        return None if shows_bounds(calls, kinds[k][1], words, at + 1) else name
     numbers = [int(word) for word in words if "-" not in word]
     named = []
     for word in words:

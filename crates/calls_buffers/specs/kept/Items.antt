@@ -4,7 +4,7 @@ use Rattle.std.specs.HashSet as hash
 use Rattle.calls_core.specs.declared.history.Op.{Op}
 use Rattle.calls_core.specs.declared.history.Op.TheVariants.{Produce, Consume}
 use Rattle.calls_core.specs.declared.history.Reply.{Reply}
-use Rattle.calls_core.specs.declared.history.Reply.TheVariants.{Number}
+use Rattle.calls_core.specs.declared.history.Reply.TheVariants.{Done, Number}
 use Rattle.calls_buffers.specs.declared.items.Items.{Items}
 use Rattle.calls_buffers.specs.declared.items.Items.TheVariants.{Any, One, Without}
 
@@ -21,3 +21,8 @@ taken_item op r = None
 abbrev pub produced_item : Op → Option ℕ
 produced_item (Produce v) = Some v
 produced_item op = None
+
+-- the item that a call put in
+abbrev pub put_item : Op → Reply → Option ℕ
+put_item op Done = produced_item op
+put_item op r = None

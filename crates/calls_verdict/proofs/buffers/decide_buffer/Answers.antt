@@ -20,3 +20,8 @@ refuse-requires-clause-shown c =
     (sym (past_all c.args.events.now c.len-count.result (omega (arith, c.len-count.ensures))))
     (subst (IsOutcome c.args.room c.args.events.now c.args.end) c.in-Refused.is
     c.in_ok-calls.ensures)
+
+pub leave_open-requires-clause-hard : goal.leave_open-requires-clause-hard
+leave_open-requires-clause-hard c =
+    subst (IsOutcome c.args.room c.args.events.now c.args.end) c.in-NotDecided.is
+    c.in_ok-calls.ensures

@@ -82,9 +82,11 @@ pub returns : goal.returns
 returns c =
     let x = c.at.result.now in
     let lt = c.loop-high.invariant.within in
-    let apart = c.loop-high.invariant.apart in
-    subst (λ (e : Event). IsFirstFault
-    (λ past. ShowsUndecided (Buffer c.args.room) past (Unfound e.at)) (Buffer c.args.room)
-    c.args.events.now c.loop-high.low) (sym (c.at.ensures x))
-    (unfound_at c.args.room c.args.events.now c.loop-high.low x c.requires.history
-    (omega arith) c.loop-high.invariant.good)
+    let apart = c.loop-high.invariant.apart in (
+      subst (λ (e : Event). IsFirstFault
+          (λ past. ShowsUndecided (Buffer c.args.room) past (Unfound e.at)) (Buffer c.args.room)
+          c.args.events.now c.loop-high.low) (sym (c.at.ensures x))
+          (unfound_at c.args.room c.args.events.now c.loop-high.low x c.requires.history
+          (omega arith) c.loop-high.invariant.good),
+      c.requires.hard,
+    )

@@ -1,0 +1,8 @@
+use Rattle.std.proofs.Common.{◌≡◌, ◌++◌, drop}
+use Rattle.calls_buffers.specs.kept.Items.{taken_item}
+use Rattle.calls_buffers.specs.kept.Accesses.{accesses}
+use Rattle.calls_buffers.proofs.accesses.completed_takes.Given as goal
+
+abbrev pub invariant-loop-i : goal.invariant-loop-i
+invariant-loop-i l =
+    l.list.items ++ accesses taken_item l.i (drop l.i l.done) ≡ accesses taken_item 0 l.done

@@ -1,0 +1,6 @@
+pub mod Ranks
+pub mod Limiting
+pub mod Queueing
+pub mod Lateness
+pub mod Deciding
+pub mod Capping
