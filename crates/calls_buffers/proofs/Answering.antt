@@ -1,6 +1,6 @@
 -- What the ranks of items decide.
-use Rattle.std.proofs.Common.{◌≡◌, ℕ, zero, suc, ◌+◌, ◌<◌, ◌≤◌, ◌⊎◌, inl, inr, nat_le, nat_lt, true}
-use Rattle.std.proofs.Common.{List, [], ◌∷◌, arith, count_by, subst, sym, refl, if◌then◌else◌}
+use Rattle.std.proofs.Common.{◌≡◌, ℕ, zero, suc, ◌<◌, ◌≤◌, ◌⊎◌, inl, inr, nat_le, nat_lt, true}
+use Rattle.std.proofs.Common.{List, [], ◌∷◌, arith, subst, sym, refl}
 use Rattle.std.proofs.Common.{reverse, Result, Ok, Err, IfOk, Option, Some, None, MatchOption}
 use Rattle.std.specs.List.{Contains, filter}
 use Rattle.std.proofs.lemmas.Bool.{cases_lt, le-leb, lt-leb, ltb-true}
@@ -8,7 +8,7 @@ use Rattle.calls_core.specs.declared.history.Kind.TheVariants.{Buffer}
 use Rattle.calls_core.specs.declared.history.Event.{Event}
 use Rattle.calls_core.specs.declared.history.PendingCall.{PendingCall}
 use Rattle.calls_core.specs.declared.history.Call.{Call}
-use Rattle.calls_core.specs.Lists.{Each, EachPair}
+use Rattle.calls_core.specs.Lists.{Each}
 use Rattle.calls_core.specs.Histories.{IsHistoryOf, clock, completed_calls, pending_calls}
 use Rattle.calls_core.proofs.Lists.{each_weaker, each_filter, each_kept, each_pair_filter}
 use Rattle.calls_core.proofs.Counting.{one_yes, one_no, count_cons}
@@ -18,15 +18,17 @@ use Rattle.calls_buffers.specs.declared.accesses.Place.{Place}
 use Rattle.calls_buffers.specs.declared.deciding.Outcome.{Outcome}
 use Rattle.calls_buffers.specs.declared.deciding.Outcome.TheVariants.{Ordered, Refused, NotDecided}
 use Rattle.calls_buffers.specs.Faults.{ShowsIn}
-use Rattle.calls_buffers.specs.Counts.{item, is_take, is_consume, all_puts}
+use Rattle.calls_buffers.specs.Counts.{item, all_puts}
 use Rattle.calls_buffers.specs.Jobs.{AreJobs}
-use Rattle.calls_buffers.specs.Outcomes.{AreAnswered, AreDistinct, IsOutcome}
-use Rattle.calls_buffers.specs.kept.Windows.{in_by, IsCompletedPut, IsPendingPut, IsCompletedTake}
-use Rattle.calls_buffers.specs.kept.Windows.{IsUntaken, IsWindow, IsWithin, AreWithin, AreWindows}
+use Rattle.calls_buffers.specs.Outcomes.{AreAnswered, AreDistinct, AreInTurn, AreTakenInTurn}
+use Rattle.calls_buffers.specs.Outcomes.{IsOutcome}
+use Rattle.calls_buffers.specs.kept.Windows.{in_by}
+use Rattle.calls_buffers.specs.kept.Windows.{IsWindow, IsWithin, AreWindows}
+use Rattle.calls_buffers.specs.Accesses.{AreWithin}
 use Rattle.calls_buffers.specs.kept.Jobs.{AreJobsFrom}
-use Rattle.calls_buffers.specs.kept.Ranks.{AreFit, Ascend}
+use Rattle.calls_buffers.specs.kept.Ranks.{AreFit}
 use Rattle.calls_buffers.specs.kept.Pairs.{IsUnproduced}
-use Rattle.calls_buffers.specs.kept.Decisions.{AllTold, NoneAsked, AreSimple, IsAnswer}
+use Rattle.calls_buffers.specs.kept.Decisions.{AllTold, NoneAsked, Fits, AreSimple, IsAnswer}
 use Rattle.calls_buffers.proofs.Deciders.{order_of_found}
 use Rattle.calls_buffers.proofs.JobsOf.{whole_sound, told_sound}
 use Rattle.calls_buffers.proofs.RanksOf.{are_fit}
@@ -92,6 +94,10 @@ pub if_ok : {T E : Type 0} (P Q : T → Type 0) → ((x : T) → P x → Q x) �
 if_ok P Q f (Ok x) h = f x h
 if_ok P Q f (Err e) h = h
 
+abbrev AreItems : List Call → List PendingCall → Type 0
+AreItems done pending =
+    AreDistinct done pending ⊎ AreInTurn done pending ⊎ AreTakenInTurn done pending
+
 -- what is answered of the calls of a history is its outcome
 pub outcome : (n t : ℕ) (events : List Event) (done : List Call) (pending : List PendingCall)
     (o : Outcome) → IsHistoryOf (Buffer n) (reverse events) → clock (reverse events) ≤ t
@@ -104,19 +110,29 @@ outcome n t events done pending (Refused f) h le d p a =
     (subst (λ os. ShowsIn n done os f) p a)
 outcome n t events done pending NotDecided h le d p a = λ fits simple. a fits (record {
   room = simple.room;
-  items = subst (λ zs. AreDistinct zs pending) (sym d)
-      (subst (AreDistinct (completed_calls (reverse events))) (sym p) simple.items);
+  items = subst (λ zs. AreItems zs pending) (sym d)
+      (subst (AreItems (completed_calls (reverse events))) (sym p) simple.items);
 })
 
--- calls whose items do not differ are not always decided, if no consume is unproduced
-pub not_simple : (n : ℕ) (done : List Call) (pending : List PendingCall) (alone : Option Place)
+-- items do not differ that are not paired, if no consume is unproduced
+pub not_distinct : (done : List Call) (pending : List PendingCall) (alone : Option Place)
     → (((v : ℕ) → all_puts (item v) done pending ≤ 1)
     → MatchOption alone ⊥ (IsUnproduced done pending))
     → ((place : Place) → alone ≡ Some place → IsUnproduced done pending place → ⊥)
-    → AreSimple n done pending → ⊥
-not_simple n done pending None known none simple = known simple.items.once
-not_simple n done pending (Some place) known none simple =
-    none place refl (known simple.items.once)
+    → AreDistinct done pending → ⊥
+not_distinct done pending None known none distinct = known distinct.once
+not_distinct done pending (Some place) known none distinct =
+    none place refl (known distinct.once)
+
+-- calls are of no class that is always decided, if neither their items differ nor they are in turn
+pub not_simple : (n end : ℕ) (done : List Call) (pending : List PendingCall)
+    → (Fits end → AreDistinct done pending → ⊥)
+    → (AreInTurn done pending ⊎ AreTakenInTurn done pending → ⊥)
+    → Fits end → AreSimple n done pending → ⊥
+not_simple n end done pending distinct turns fits simple = elim simple.items [
+  | inl h ↦ distinct fits h
+  | inr h ↦ turns h
+]
 
 -- WHAT WAS RETURNED
 

@@ -26,13 +26,14 @@ use Rattle.calls_buffers.specs.declared.windows.Window.{Window}
 use Rattle.calls_buffers.specs.Counts.{item, all_puts, is_put, is_take, put_one, took_one}
 use Rattle.calls_buffers.specs.Counts.{produces}
 use Rattle.calls_buffers.specs.Jobs.{IsProduceOf, IsConsumeOf}
-use Rattle.calls_buffers.specs.kept.Items.{taken_item, produced_item, put_item}
-use Rattle.calls_buffers.specs.kept.Accesses.{access_of, accesses, asked_of, asked, Ascend}
+use Rattle.calls_buffers.specs.Accesses.{taken_item, produced_item, put_item}
+use Rattle.calls_buffers.specs.kept.Accesses.{Ascend}
+use Rattle.calls_buffers.specs.Accesses.{access_of, accesses, asked_of, asked}
 use Rattle.calls_buffers.specs.kept.Accesses.{find_access}
 use Rattle.calls_buffers.specs.kept.Pairs.{told, untold, window_of, window_list, fits_put, fits}
 use Rattle.calls_buffers.specs.kept.Windows.{IsCompletedPut, IsPendingPut}
 use Rattle.calls_buffers.specs.kept.Windows.{IsWindow, HasWindow, AreWindows}
-use Rattle.calls_buffers.specs.kept.Windows.{AreWithin}
+use Rattle.calls_buffers.specs.Accesses.{AreWithin}
 use Rattle.calls_buffers.proofs.Untaking.{took_item}
 use Rattle.calls_buffers.proofs.ByItems.{of_item, find_known, find_none}
 use Rattle.calls_buffers.proofs.ByItems.{count_once, put_took, count_items, find_own}
@@ -99,6 +100,7 @@ pub record HasAccess (list : List Access) (c : Call) (v : ℕ) : Type 0 where
   pub access : Access
   pub known : Contains list access
   pub item : access.item ≡ v
+  pub first : access.first ≡ c.first
   pub last : access.last ≡ c.last
 
 pub access_of_call : (f : Op → Reply → Option ℕ) (i : ℕ) (cs : List Call) (c : Call) (v : ℕ)
@@ -111,6 +113,7 @@ access_of_call f i (x ∷ cs) c v (zero, lt, s) e =
       known = subst (λ o. Contains (access_of i x o ++ accesses f (i + 1) cs) made)
           (sym (ap (λ (y : Call). f y.op y.reply) s ∙ e)) (zero, omega arith, refl);
       item = refl;
+      first = ap (λ (y : Call). y.first) s;
       last = ap (λ (y : Call). y.last) s;
     }
 access_of_call f i (x ∷ cs) c v (suc k, lt, s) e =
@@ -121,6 +124,7 @@ access_of_call f i (x ∷ cs) c v (suc k, lt, s) e =
       known = Contains-append_right (access_of i x (f x.op x.reply)) (accesses f (i + 1) cs)
           r.access r.known;
       item = r.item;
+      first = r.first;
       last = r.last;
     }
 
@@ -329,13 +333,13 @@ module _ (end : ℕ) (done : List Call) (pending : List PendingCall) (puts takes
 
   module _ (within : AreWithin end done pending) where
     -- a produce that is listed
-    record IsListed (w : Window) (p : Access) : Type 0 where
-      put : IsCompletedPut done w ⊎ IsPendingPut pending end w
-      lasts : p.first ≤ p.last
-      begun : p.first < end
-      ends : p.last ≤ end
+    pub record IsListed (w : Window) (p : Access) : Type 0 where
+      pub put : IsCompletedPut done w ⊎ IsPendingPut pending end w
+      pub lasts : p.first ≤ p.last
+      pub begun : p.first < end
+      pub ends : p.last ≤ end
 
-    put_of : (w : Window) (p : Access) → w.item ≡ p.item → p.first ≡ w.put_first
+    pub put_of : (w : Window) (p : Access) → w.item ≡ p.item → p.first ≡ w.put_first
         → p.last ≡ w.put_last → Contains puts p → IsListed w p
     put_of w p item first last h =
         elim (Contains-append_cases (accesses put_item 0 done) (asked end 0 pending) p

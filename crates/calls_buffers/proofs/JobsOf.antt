@@ -24,7 +24,7 @@ use Rattle.calls_buffers.specs.kept.Windows.{IsCompletedTake, IsUntaken, IsWindo
 use Rattle.calls_buffers.specs.kept.Windows.{AreWindows}
 use Rattle.calls_buffers.specs.kept.Jobs.{early_reach, late_reach, HasTop, IsTop, Before, IsHeld}
 use Rattle.calls_buffers.specs.kept.Jobs.{IsPushed, IsJobFrom, AreJobsFrom}
-use Rattle.calls_buffers.specs.kept.Windows.{AreWithin}
+use Rattle.calls_buffers.specs.Accesses.{AreWithin}
 use Rattle.calls_buffers.proofs.AreWindows.{each_contains, one_of}
 
 unmap : {X Y : Type 0} (f : X → Y) (holds : Y → Type 0) (xs : List X) → Each holds (map f xs)

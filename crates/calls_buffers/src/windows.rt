@@ -7,7 +7,8 @@ ghost use Rattle.calls_buffers.specs.Counts.{item, all_puts};
 ghost use Rattle.calls_buffers.specs.kept.Accesses.{ByItem, later};
 ghost use Rattle.calls_buffers.specs.kept.Pairs.{told, untold, window_list, fits, IsUnfit};
 ghost use Rattle.calls_buffers.specs.kept.Pairs.{IsUnproduced, ArePaired, AreNotPaired};
-ghost use Rattle.calls_buffers.specs.kept.Windows.{AreWindows, AreWithin, in_by, out_from};
+ghost use Rattle.calls_buffers.specs.kept.Windows.{AreWindows, in_by, out_from};
+ghost use Rattle.calls_buffers.specs.Accesses.{AreWithin};
 
 use crate::accesses::{Access, Place, find, puts, repeated, takes};
 use crate::recorded::Recorded;
@@ -60,7 +61,7 @@ pub(crate) struct Windows {
 }
 
 /// Returns the window of an item with this produce and this consume.
-fn told(put: &Access, take: &Access) -> Window
+pub(crate) fn told(put: &Access, take: &Access) -> Window
     ensures { result ≡ told put.now take.now }
 {
     Window {
@@ -75,7 +76,7 @@ fn told(put: &Access, take: &Access) -> Window
 }
 
 /// Returns the window of an item with this produce and no consume.
-fn untold(put: &Access, end: usize) -> Window
+pub(crate) fn untold(put: &Access, end: usize) -> Window
     ensures { result ≡ untold end put.now }
 {
     Window {

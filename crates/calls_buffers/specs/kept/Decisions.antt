@@ -1,5 +1,5 @@
 -- What is decided of recorded calls.
-use Rattle.std.specs.Prelude.{◌≡◌, ℕ, ◌+◌, ◌<◌, ◌^◌, nat_le}
+use Rattle.std.specs.Prelude.{◌≡◌, ℕ, ◌+◌, ◌<◌, ◌^◌, ◌⊎◌, nat_le}
 use Rattle.std.specs.Prelude.{List, count_by}
 use Rattle.calls_core.specs.declared.history.PendingCall.{PendingCall}
 use Rattle.calls_core.specs.declared.history.Call.{Call}
@@ -8,7 +8,7 @@ use Rattle.calls_buffers.specs.declared.deciding.Outcome.TheVariants.{Ordered, R
 use Rattle.calls_buffers.specs.declared.windows.Window.{Window}
 use Rattle.calls_buffers.specs.Counts.{is_consume}
 use Rattle.calls_buffers.specs.Faults.{ShowsIn}
-use Rattle.calls_buffers.specs.Outcomes.{AreDistinct}
+use Rattle.calls_buffers.specs.Outcomes.{AreDistinct, AreInTurn, AreTakenInTurn}
 use Rattle.calls_buffers.specs.kept.Orders.{IsFound}
 
 -- no pending consume may have taken an item: each item was returned before `end`, or none is pending
@@ -25,7 +25,7 @@ Fits end = end + 1 < 2 ^ 64
 -- the calls are of the class that is always decided
 pub record AreSimple (n : ℕ) (done : List Call) (pending : List PendingCall) : Type 0 where
   pub room : 0 < n
-  pub items : AreDistinct done pending
+  pub items : AreDistinct done pending ⊎ AreInTurn done pending ⊎ AreTakenInTurn done pending
 
 abbrev pub IsAnswer : ℕ → List Call → List PendingCall → ℕ → Outcome → Type 0
 IsAnswer n done pending end (Ordered cs) = IsFound n done pending end cs

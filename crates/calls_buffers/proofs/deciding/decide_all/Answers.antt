@@ -1,5 +1,4 @@
-use Rattle.std.proofs.Common.{arith, subst, sym, refl, reverse, List, None, IsSome, Some}
-use Rattle.calls_core.proofs.Lists.{each_weaker}
+use Rattle.std.proofs.Common.{arith, subst, sym, refl, reverse, List, IsSome}
 use Rattle.calls_schedule.specs.declared.job.Job.{Job}
 use Rattle.calls_buffers.specs.Jobs.{AreJobs}
 use Rattle.calls_schedule.specs.Schedules.{Refute}
