@@ -1,6 +1,6 @@
 -- What the ranks of items decide.
-use Rattle.std.proofs.Common.{◌≡◌, ℕ, zero, suc, ◌+◌, ◌<◌, ◌≤◌, ◌⊎◌, inl, inr, nat_le, nat_lt, true}
-use Rattle.std.proofs.Common.{List, [], ◌∷◌, arith, count_by, subst, sym, refl, if◌then◌else◌}
+use Rattle.std.proofs.Common.{◌≡◌, ℕ, zero, suc, ◌<◌, ◌≤◌, ◌⊎◌, inl, inr, nat_le, nat_lt, true}
+use Rattle.std.proofs.Common.{List, [], ◌∷◌, arith, subst, sym, refl}
 use Rattle.std.proofs.Common.{reverse, Result, Ok, Err, IfOk, Option, Some, None, MatchOption}
 use Rattle.std.specs.List.{Contains, filter}
 use Rattle.std.proofs.lemmas.Bool.{cases_lt, le-leb, lt-leb, ltb-true}
@@ -8,7 +8,7 @@ use Rattle.calls_core.specs.declared.history.Kind.TheVariants.{Buffer}
 use Rattle.calls_core.specs.declared.history.Event.{Event}
 use Rattle.calls_core.specs.declared.history.PendingCall.{PendingCall}
 use Rattle.calls_core.specs.declared.history.Call.{Call}
-use Rattle.calls_core.specs.Lists.{Each, EachPair}
+use Rattle.calls_core.specs.Lists.{Each}
 use Rattle.calls_core.specs.Histories.{IsHistoryOf, clock, completed_calls, pending_calls}
 use Rattle.calls_core.proofs.Lists.{each_weaker, each_filter, each_kept, each_pair_filter}
 use Rattle.calls_core.proofs.Counting.{one_yes, one_no, count_cons}
@@ -18,27 +18,29 @@ use Rattle.calls_buffers.specs.declared.accesses.Place.{Place}
 use Rattle.calls_buffers.specs.declared.deciding.Outcome.{Outcome}
 use Rattle.calls_buffers.specs.declared.deciding.Outcome.TheVariants.{Ordered, Refused, NotDecided}
 use Rattle.calls_buffers.specs.Faults.{ShowsIn}
-use Rattle.calls_buffers.specs.Counts.{item, is_take, is_consume, all_puts}
+use Rattle.calls_buffers.specs.Counts.{item, all_puts}
 use Rattle.calls_buffers.specs.Jobs.{AreJobs}
-use Rattle.calls_buffers.specs.Outcomes.{AreAnswered, AreDistinct, IsOutcome}
-use Rattle.calls_buffers.specs.kept.Windows.{in_by, IsCompletedPut, IsPendingPut, IsCompletedTake}
-use Rattle.calls_buffers.specs.kept.Windows.{IsUntaken, IsWindow, IsWithin, AreWithin, AreWindows}
+use Rattle.calls_buffers.specs.Outcomes.{AreAnswered, AreDistinct, AreInTurn, AreTakenInTurn}
+use Rattle.calls_buffers.specs.Outcomes.{IsOutcome}
+use Rattle.calls_buffers.specs.kept.Windows.{in_by}
+use Rattle.calls_buffers.specs.kept.Windows.{IsWindow, IsWithin, AreWindows}
+use Rattle.calls_buffers.specs.Accesses.{AreWithin}
 use Rattle.calls_buffers.specs.kept.Jobs.{AreJobsFrom}
-use Rattle.calls_buffers.specs.kept.Ranks.{AreFit, Ascend}
+use Rattle.calls_buffers.specs.kept.Ranks.{AreFit}
 use Rattle.calls_buffers.specs.kept.Pairs.{IsUnproduced}
-use Rattle.calls_buffers.specs.kept.Decisions.{AllTold, NoneAsked, AreSimple, IsAnswer}
+use Rattle.calls_buffers.specs.kept.Decisions.{AllReturned, NoneAsked, Fits, AreSimple, IsAnswer}
 use Rattle.calls_buffers.proofs.Deciders.{order_of_found}
-use Rattle.calls_buffers.proofs.JobsOf.{whole_sound, told_sound}
+use Rattle.calls_buffers.proofs.JobsOf.{whole_sound, sound_if_returned}
 use Rattle.calls_buffers.proofs.RanksOf.{are_fit}
 use Rattle.calls_buffers.proofs.AreWindows.{one_of}
 
-each_told : (ws : List Window) (end : ℕ) → AllTold ws end
+each_returned : (ws : List Window) (end : ℕ) → AllReturned ws end
     → Each (λ (w : Window). w.take_last < end) ws
-each_told [] end none = tt
-each_told (w ∷ ws) end none =
+each_returned [] end none = tt
+each_returned (w ∷ ws) end none =
     let parts = count_cons (λ (x : Window). nat_le end x.take_last) w ws in
     elim (cases_lt w.take_last end) [
-      | inl lt ↦ (lt, each_told ws end (omega (arith, none, parts)))
+      | inl lt ↦ (lt, each_returned ws end (omega (arith, none, parts)))
       | inr le ↦ absurd (omega (
         arith,
         none,
@@ -48,36 +50,36 @@ each_told (w ∷ ws) end none =
       ))
     ]
 
-all_told : (ws : List Window) (end : ℕ) → Each (λ (w : Window). w.take_last < end) ws
-    → AllTold ws end
-all_told [] end h = refl
-all_told (w ∷ ws) end h = omega (
+all_returned : (ws : List Window) (end : ℕ) → Each (λ (w : Window). w.take_last < end) ws
+    → AllReturned ws end
+all_returned [] end h = refl
+all_returned (w ∷ ws) end h = omega (
   arith,
   count_cons (λ (x : Window). nat_le end x.take_last) w ws,
   one_no (nat_le end w.take_last) (lt-leb end w.take_last h.0),
-  all_told ws end h.1,
+  all_returned ws end h.1,
 )
 
 -- the jobs of all items, if no pending consume may have taken one
 pub all_sound : (end : ℕ) (done : List Call) (pending : List PendingCall) (ws : List Window)
     (js : List Job) → AreWindows done pending end ws
-    → AllTold ws end ⊎ NoneAsked pending → AreJobsFrom ws ws js → AreJobs done pending end js
+    → AllReturned ws end ⊎ NoneAsked pending → AreJobsFrom ws ws js → AreJobs done pending end js
 all_sound end done pending ws js are (inr none) h =
     whole_sound end done pending ws js are none h
 all_sound end done pending ws js are (inl all) h =
-    told_sound end done pending ws ws js are (λ w k. k) are.ascend (each_told ws end all) h
+    sound_if_returned end done pending ws ws js are (λ w k. k) are.ascend (each_returned ws end all) h
 
 -- of calls that are always decided, no pending consume may have taken an item
-pub is_told : (end : ℕ) (done : List Call) (pending : List PendingCall) (ws : List Window)
+pub is_settled : (end : ℕ) (done : List Call) (pending : List PendingCall) (ws : List Window)
     → AreWithin end done pending → AreWindows done pending end ws → AreAnswered done pending
-    → AllTold ws end ⊎ NoneAsked pending
-is_told end done pending ws within are (inl none) = inr none
-is_told end done pending ws within are (inr taken) =
-    inl (all_told ws end (each_weaker (IsWindow done pending end)
-    (λ (w : Window). w.take_last < end) told ws are.each))
+    → AllReturned ws end ⊎ NoneAsked pending
+is_settled end done pending ws within are (inl none) = inr none
+is_settled end done pending ws within are (inr taken) =
+    inl (all_returned ws end (each_weaker (IsWindow done pending end)
+    (λ (w : Window). w.take_last < end) with_take ws are.each))
   where
-    told : (w : Window) → IsWindow done pending end w → w.take_last < end
-    told w k = elim k.take [
+    with_take : (w : Window) → IsWindow done pending end w → w.take_last < end
+    with_take w k = elim k.take [
       | inl t ↦ (let e = (one_of (λ (c : Call). (c.first < c.last) × (c.last < end)) done
           t.call within.completed t.consume.known).1 in omega (arith, e, t.last))
       | inr u ↦ elim k.put [
@@ -92,6 +94,10 @@ pub if_ok : {T E : Type 0} (P Q : T → Type 0) → ((x : T) → P x → Q x) �
 if_ok P Q f (Ok x) h = f x h
 if_ok P Q f (Err e) h = h
 
+abbrev AreItems : List Call → List PendingCall → Type 0
+AreItems done pending =
+    AreDistinct done pending ⊎ AreInTurn done pending ⊎ AreTakenInTurn done pending
+
 -- what is answered of the calls of a history is its outcome
 pub outcome : (n t : ℕ) (events : List Event) (done : List Call) (pending : List PendingCall)
     (o : Outcome) → IsHistoryOf (Buffer n) (reverse events) → clock (reverse events) ≤ t
@@ -104,28 +110,38 @@ outcome n t events done pending (Refused f) h le d p a =
     (subst (λ os. ShowsIn n done os f) p a)
 outcome n t events done pending NotDecided h le d p a = λ fits simple. a fits (record {
   room = simple.room;
-  items = subst (λ zs. AreDistinct zs pending) (sym d)
-      (subst (AreDistinct (completed_calls (reverse events))) (sym p) simple.items);
+  items = subst (λ zs. AreItems zs pending) (sym d)
+      (subst (AreItems (completed_calls (reverse events))) (sym p) simple.items);
 })
 
--- calls whose items do not differ are not always decided, if no consume is unproduced
-pub not_simple : (n : ℕ) (done : List Call) (pending : List PendingCall) (alone : Option Place)
+-- items do not differ that are not paired, if no consume is unproduced
+pub not_distinct : (done : List Call) (pending : List PendingCall) (alone : Option Place)
     → (((v : ℕ) → all_puts (item v) done pending ≤ 1)
     → MatchOption alone ⊥ (IsUnproduced done pending))
     → ((place : Place) → alone ≡ Some place → IsUnproduced done pending place → ⊥)
-    → AreSimple n done pending → ⊥
-not_simple n done pending None known none simple = known simple.items.once
-not_simple n done pending (Some place) known none simple =
-    none place refl (known simple.items.once)
+    → AreDistinct done pending → ⊥
+not_distinct done pending None known none distinct = known distinct.once
+not_distinct done pending (Some place) known none distinct =
+    none place refl (known distinct.once)
+
+-- calls are of no class that is always decided, if neither their items differ nor they are in turn
+pub not_simple : (n end : ℕ) (done : List Call) (pending : List PendingCall)
+    → (Fits end → AreDistinct done pending → ⊥)
+    → (AreInTurn done pending ⊎ AreTakenInTurn done pending → ⊥)
+    → Fits end → AreSimple n done pending → ⊥
+not_simple n end done pending distinct turns fits simple = elim simple.items [
+  | inl h ↦ distinct fits h
+  | inr h ↦ turns h
+]
 
 -- WHAT WAS RETURNED
 
 abbrev pub returned : List Window → ℕ → List Window
 returned ws end = filter (λ (w : Window). nat_lt w.take_last end) ws
 
-pub returned_told : (ws : List Window) (end : ℕ)
+pub returned_each : (ws : List Window) (end : ℕ)
     → Each (λ (w : Window). w.take_last < end) (returned ws end)
-returned_told ws end = each_weaker (λ (w : Window). Unit {0} × (nat_lt w.take_last end ≡ true))
+returned_each ws end = each_weaker (λ (w : Window). Unit {0} × (nat_lt w.take_last end ≡ true))
     (λ (w : Window). w.take_last < end) (λ w k. ltb-true w.take_last end k.1) (returned ws end)
     (each_filter (λ (w : Window). Unit {0}) (λ (w : Window). nat_lt w.take_last end) ws (units ws))
   where
@@ -147,8 +163,8 @@ pub returned_sound : (end : ℕ) (done : List Call) (pending : List PendingCall)
     (js : List Job) → AreWindows done pending end ws
     → AreJobsFrom (returned ws end) (returned ws end) js → AreJobs done pending end js
 returned_sound end done pending ws js are h =
-    told_sound end done pending ws (returned ws end) js are known
-    (returned_fit ws end (are_fit end done pending ws are)).ascend (returned_told ws end) h
+    sound_if_returned end done pending ws (returned ws end) js are known
+    (returned_fit ws end (are_fit end done pending ws are)).ascend (returned_each ws end) h
   where
     self : (xs : List Window) → ((w : Window) → Contains xs w → Contains ws w)
         → Each (Contains ws) xs

@@ -26,13 +26,14 @@ use Rattle.calls_buffers.specs.declared.windows.Window.{Window}
 use Rattle.calls_buffers.specs.Counts.{item, all_puts, is_put, is_take, put_one, took_one}
 use Rattle.calls_buffers.specs.Counts.{produces}
 use Rattle.calls_buffers.specs.Jobs.{IsProduceOf, IsConsumeOf}
-use Rattle.calls_buffers.specs.kept.Items.{taken_item, produced_item, put_item}
-use Rattle.calls_buffers.specs.kept.Accesses.{access_of, accesses, asked_of, asked, Ascend}
+use Rattle.calls_buffers.specs.Accesses.{taken_item, produced_item, put_item}
+use Rattle.calls_buffers.specs.kept.Accesses.{Ascend}
+use Rattle.calls_buffers.specs.Accesses.{access_of, accesses, asked_of, asked}
 use Rattle.calls_buffers.specs.kept.Accesses.{find_access}
-use Rattle.calls_buffers.specs.kept.Pairs.{told, untold, window_of, window_list, fits_put, fits}
+use Rattle.calls_buffers.specs.kept.Pairs.{with_take, without_take, window_of, window_list, fits_put, fits}
 use Rattle.calls_buffers.specs.kept.Windows.{IsCompletedPut, IsPendingPut}
 use Rattle.calls_buffers.specs.kept.Windows.{IsWindow, HasWindow, AreWindows}
-use Rattle.calls_buffers.specs.kept.Windows.{AreWithin}
+use Rattle.calls_buffers.specs.Accesses.{AreWithin}
 use Rattle.calls_buffers.proofs.Untaking.{took_item}
 use Rattle.calls_buffers.proofs.ByItems.{of_item, find_known, find_none}
 use Rattle.calls_buffers.proofs.ByItems.{count_once, put_took, count_items, find_own}
@@ -99,6 +100,7 @@ pub record HasAccess (list : List Access) (c : Call) (v : ℕ) : Type 0 where
   pub access : Access
   pub known : Contains list access
   pub item : access.item ≡ v
+  pub first : access.first ≡ c.first
   pub last : access.last ≡ c.last
 
 pub access_of_call : (f : Op → Reply → Option ℕ) (i : ℕ) (cs : List Call) (c : Call) (v : ℕ)
@@ -111,6 +113,7 @@ access_of_call f i (x ∷ cs) c v (zero, lt, s) e =
       known = subst (λ o. Contains (access_of i x o ++ accesses f (i + 1) cs) made)
           (sym (ap (λ (y : Call). f y.op y.reply) s ∙ e)) (zero, omega arith, refl);
       item = refl;
+      first = ap (λ (y : Call). y.first) s;
       last = ap (λ (y : Call). y.last) s;
     }
 access_of_call f i (x ∷ cs) c v (suc k, lt, s) e =
@@ -121,6 +124,7 @@ access_of_call f i (x ∷ cs) c v (suc k, lt, s) e =
       known = Contains-append_right (access_of i x (f x.op x.reply)) (accesses f (i + 1) cs)
           r.access r.known;
       item = r.item;
+      first = r.first;
       last = r.last;
     }
 
@@ -231,7 +235,7 @@ own_item : (holds : ℕ → Type 0) (end : ℕ) (p : Access) (o : Option Access)
 own_item holds end p (Some t) h = (h, tt)
 own_item holds end p None h =
     elim (nat_lt p.last end) as (λ b. Each (λ (w : Window). holds w.item)
-    (cond b (untold end p ∷ []) [])) [ true ↦ (h, tt) | false ↦ tt ]
+    (cond b (without_take end p ∷ []) [])) [ true ↦ (h, tt) | false ↦ tt ]
 
 later_items : (holds : ℕ → Type 0) (end : ℕ) (takes puts : List Access)
     → Each (λ (a : Access). holds a.item) puts
@@ -253,7 +257,7 @@ windows_ascend end takes (p ∷ puts) h =
     alone (Some t) = (tt, tt)
     alone None =
         elim (nat_lt p.last end) as (λ b. EachPair (λ (x y : Window). x.item < y.item)
-        (cond b (untold end p ∷ []) [])) [ true ↦ (tt, tt) | false ↦ tt ]
+        (cond b (without_take end p ∷ []) [])) [ true ↦ (tt, tt) | false ↦ tt ]
 
 -- THE WINDOWS
 
@@ -329,13 +333,13 @@ module _ (end : ℕ) (done : List Call) (pending : List PendingCall) (puts takes
 
   module _ (within : AreWithin end done pending) where
     -- a produce that is listed
-    record IsListed (w : Window) (p : Access) : Type 0 where
-      put : IsCompletedPut done w ⊎ IsPendingPut pending end w
-      lasts : p.first ≤ p.last
-      begun : p.first < end
-      ends : p.last ≤ end
+    pub record IsListed (w : Window) (p : Access) : Type 0 where
+      pub put : IsCompletedPut done w ⊎ IsPendingPut pending end w
+      pub lasts : p.first ≤ p.last
+      pub begun : p.first < end
+      pub ends : p.last ≤ end
 
-    put_of : (w : Window) (p : Access) → w.item ≡ p.item → p.first ≡ w.put_first
+    pub put_of : (w : Window) (p : Access) → w.item ≡ p.item → p.first ≡ w.put_first
         → p.last ≡ w.put_last → Contains puts p → IsListed w p
     put_of w p item first last h =
         elim (Contains-append_cases (accesses put_item 0 done) (asked end 0 pending) p
@@ -394,11 +398,11 @@ module _ (end : ℕ) (done : List Call) (pending : List PendingCall) (puts takes
           leb-true p.first t.last (sym (ap (fits_put t) found)
           ∙ one_of (λ (x : Access). fits puts x ≡ true) takes t fit k)
 
-      told_window : (p t : Access) → Contains puts p → find_access takes p.item ≡ Some t
-          → IsWindow done pending end (told p t)
-      told_window p t h e =
+      window_with_take : (p t : Access) → Contains puts p → find_access takes p.item ≡ Some t
+          → IsWindow done pending end (with_take p t)
+      window_with_take p t h e =
           let known = find_known takes p.item t e in
-          let put = put_of (told p t) p refl refl refl h in
+          let put = put_of (with_take p t) p refl refl refl h in
           let take = take_of t known.0 in
           let times = one_of (λ (c : Call). (c.first < c.last) × (c.last < end)) done take.call
           within.completed take.consume.known in
@@ -426,10 +430,10 @@ module _ (end : ℕ) (done : List Call) (pending : List PendingCall) (puts takes
             };
           }
 
-      untold_window : (p : Access) → Contains puts p → find_access takes p.item ≡ None
-          → p.last < end → IsWindow done pending end (untold end p)
-      untold_window p h e lt =
-          let put = put_of (untold end p) p refl refl refl h in
+      window_without_take : (p : Access) → Contains puts p → find_access takes p.item ≡ None
+          → p.last < end → IsWindow done pending end (without_take end p)
+      window_without_take p h e lt =
+          let put = put_of (without_take end p) p refl refl refl h in
           record {
             put = put.put;
             take = inr (record {
@@ -450,24 +454,24 @@ module _ (end : ℕ) (done : List Call) (pending : List PendingCall) (puts takes
 
       own_window : (p : Access) → Contains puts p → (o : Option Access)
           → find_access takes p.item ≡ o → Each (IsWindow done pending end) (window_of end p o)
-      own_window p h (Some t) e = (told_window p t h e, tt)
+      own_window p h (Some t) e = (window_with_take p t h e, tt)
       own_window p h None e =
           elim (nat_lt p.last end) as (λ b. nat_lt p.last end ≡ b
-          → Each (IsWindow done pending end) (cond b (untold end p ∷ []) [])) [
-            | true ↦ λ q. (untold_window p h e (ltb-true p.last end q), tt)
+          → Each (IsWindow done pending end) (cond b (without_take end p ∷ []) [])) [
+            | true ↦ λ q. (window_without_take p h e (ltb-true p.last end q), tt)
             | false ↦ λ q. tt
           ] refl
 
-      has_told : (p t : Access) → Contains puts p → find_access takes p.item ≡ Some t
-          → Contains (window_list end takes puts) (told p t)
-      has_told p t h e = window_known end takes puts p (told p t) h
-          (subst (λ o. Contains (window_of end p o) (told p t)) (sym e) (zero, omega arith, refl))
+      has_with_take : (p t : Access) → Contains puts p → find_access takes p.item ≡ Some t
+          → Contains (window_list end takes puts) (with_take p t)
+      has_with_take p t h e = window_known end takes puts p (with_take p t) h
+          (subst (λ o. Contains (window_of end p o) (with_take p t)) (sym e) (zero, omega arith, refl))
 
-      has_untold : (p : Access) → Contains puts p → find_access takes p.item ≡ None → p.last < end
-          → Contains (window_list end takes puts) (untold end p)
-      has_untold p h e lt = window_known end takes puts p (untold end p) h
-          (subst (λ o. Contains (window_of end p o) (untold end p)) (sym e)
-          (subst (λ b. Contains (cond b (untold end p ∷ []) []) (untold end p))
+      has_without_take : (p : Access) → Contains puts p → find_access takes p.item ≡ None → p.last < end
+          → Contains (window_list end takes puts) (without_take end p)
+      has_without_take p h e lt = window_known end takes puts p (without_take end p) h
+          (subst (λ o. Contains (window_of end p o) (without_take end p)) (sym e)
+          (subst (λ b. Contains (cond b (without_take end p ∷ []) []) (without_take end p))
           (sym (lt-ltb p.last end lt)) (zero, omega arith, refl)))
 
       put_has : (v : ℕ) (c : Call) → IsProduceOf done v c → HasWindow (window_list end takes puts) v
@@ -486,9 +490,9 @@ module _ (end : ℕ) (done : List Call) (pending : List PendingCall) (puts takes
           own : (p : Access) → Contains puts p → p.item ≡ v → p.last < end → (o : Option Access)
               → find_access takes p.item ≡ o → HasWindow (window_list end takes puts) v
           own p there item lt (Some t) q =
-              record { window = told p t; known = has_told p t there q; is = item }
+              record { window = with_take p t; known = has_with_take p t there q; is = item }
           own p there item lt None q =
-              record { window = untold end p; known = has_untold p there q lt; is = item }
+              record { window = without_take end p; known = has_without_take p there q lt; is = item }
 
       take_has : (v : ℕ) (c : Call) → IsConsumeOf done v c
           → HasWindow (window_list end takes puts) v
@@ -510,8 +514,8 @@ module _ (end : ℕ) (done : List Call) (pending : List PendingCall) (puts takes
               let found : find_access takes p.item ≡ Some t =
               ap (find_access takes) known.1 ∙ find_own takes t takes_ascend there in
               record {
-                window = told p t;
-                known = has_told p t known.0 found;
+                window = with_take p t;
+                known = has_with_take p t known.0 found;
                 is = known.1 ∙ same;
               }
 

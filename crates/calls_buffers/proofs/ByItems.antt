@@ -21,8 +21,9 @@ use Rattle.calls_core.proofs.Counting.{one, one_yes, one_no, count_cons, count_a
 use Rattle.calls_buffers.specs.declared.accesses.Place.TheVariants.{Completed, Pending}
 use Rattle.calls_buffers.specs.declared.accesses.Access.{Access}
 use Rattle.calls_buffers.specs.Counts.{item, produces, put_one}
-use Rattle.calls_buffers.specs.kept.Items.{produced_item, put_item}
-use Rattle.calls_buffers.specs.kept.Accesses.{access_of, accesses, asked_of, asked, ByItem}
+use Rattle.calls_buffers.specs.Accesses.{produced_item, put_item}
+use Rattle.calls_buffers.specs.kept.Accesses.{ByItem}
+use Rattle.calls_buffers.specs.Accesses.{access_of, accesses, asked_of, asked}
 use Rattle.calls_buffers.specs.kept.Accesses.{find_access, Ascend}
 use Rattle.calls_buffers.proofs.Untaking.{passes}
 

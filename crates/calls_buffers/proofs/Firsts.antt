@@ -1,11 +1,10 @@
 -- What stands in a list of items before an item, and how many jobs have their item in a list.
-use Rattle.std.proofs.Common.{◌≡◌, ℕ, zero, suc, ◌+◌, ◌<◌, ◌≤◌, ◌⊎◌, inl, inr, Bool, true, false}
+use Rattle.std.proofs.Common.{◌≡◌, ℕ, ◌+◌, ◌<◌, ◌≤◌, ◌⊎◌, inl, inr, Bool, true, false}
 use Rattle.std.proofs.Common.{nat_lt, ◌==◌, List, [], ◌∷◌, ◌++◌, length, if◌then◌else◌}
-use Rattle.std.proofs.Common.{refl, ap, sym, ◌∙◌, arith, count_by, append_assoc, append-nil, subst}
+use Rattle.std.proofs.Common.{refl, ap, sym, ◌∙◌, arith, count_by, append_assoc, append-nil}
 use Rattle.std.specs.List.{Contains}
 use Rattle.std.proofs.lemmas.Bool.{cases_lt, eq-eqb, eqb-true, lt-ltb, ltb-true, le-ltb}
 use Rattle.calls_core.specs.Lists.{Each, EachPair}
-use Rattle.calls_core.proofs.Lists.{each_weaker}
 use Rattle.calls_core.proofs.Counting.{one, one_yes, one_no, one_less, count_cons, count_append}
 use Rattle.calls_core.proofs.Counting.{split_at}
 use Rattle.calls_schedule.specs.declared.job.Job.{Job}

@@ -24,7 +24,7 @@ use Rattle.calls_buffers.specs.kept.Windows.{IsCompletedTake, IsUntaken, IsWindo
 use Rattle.calls_buffers.specs.kept.Windows.{AreWindows}
 use Rattle.calls_buffers.specs.kept.Jobs.{early_reach, late_reach, HasTop, IsTop, Before, IsHeld}
 use Rattle.calls_buffers.specs.kept.Jobs.{IsPushed, IsJobFrom, AreJobsFrom}
-use Rattle.calls_buffers.specs.kept.Windows.{AreWithin}
+use Rattle.calls_buffers.specs.Accesses.{AreWithin}
 use Rattle.calls_buffers.proofs.AreWindows.{each_contains, one_of}
 
 unmap : {X Y : Type 0} (f : X → Y) (holds : Y → Type 0) (xs : List X) → Each holds (map f xs)
@@ -345,19 +345,19 @@ whole_sound end done pending ws js are none h =
     jobs_sound end done pending ws are ws are.each (λ w known k. none) are.ascend js h
 
 -- of some items, if each of them was taken
-pub told_sound : (end : ℕ) (done : List Call) (pending : List PendingCall) (all ws : List Window)
+pub sound_if_returned : (end : ℕ) (done : List Call) (pending : List PendingCall) (all ws : List Window)
     (js : List Job) → AreWindows done pending end all
     → ((w : Window) → Contains ws w → Contains all w)
     → EachPair (λ (x y : Window). x.item < y.item) ws
     → Each (λ (w : Window). w.take_last < end) ws → AreJobsFrom ws ws js
     → AreJobs done pending end js
-told_sound end done pending all ws js are within up told h =
+sound_if_returned end done pending all ws js are within up with_take h =
     jobs_sound end done pending all are ws (each_contains (IsWindow done pending end) ws
     (λ w known. one_of (IsWindow done pending end) all w are.each (within w known)))
     (λ w known k. absurd (omega (
       arith,
       k.last,
-      one_of (λ (x : Window). x.take_last < end) ws w told known,
+      one_of (λ (x : Window). x.take_last < end) ws w with_take known,
     ))) up js h
 
 -- the calls of a buffer are before the end of their history

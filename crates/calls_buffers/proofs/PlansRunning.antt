@@ -1,9 +1,10 @@
 -- The calls of items that are put in and taken out by their ranks, sorted by their places, are a
 -- run of a buffer.
 use Rattle.std.proofs.Common.{◌≡◌, ℕ, zero, suc, ◌+◌, ◌<◌, ◌≤◌, ◌==◌, ◌⊎◌, inl, inr, Bool, true}
-use Rattle.std.proofs.Common.{false, List, [], ◌∷◌, ◌++◌, length, refl, ap, sym, ◌∙◌, subst, arith}
-use Rattle.std.proofs.Common.{count_by}
-use Rattle.std.proofs.lemmas.Bool.{cases_lt, eqb-true, eq-eqb, ne_eqb}
+use Rattle.std.proofs.Common.{false, ◌&&◌, List, [], ◌∷◌, ◌++◌, length, refl, ap, sym, ◌∙◌, subst}
+use Rattle.std.proofs.Common.{arith, count_by}
+use Rattle.std.proofs.lemmas.Bool.{cases_lt, eqb-true, eq-eqb, ne_eqb, and_from, and_left}
+use Rattle.std.proofs.lemmas.Bool.{and_right, and_parts}
 use Rattle.calls_core.specs.declared.history.Op.TheVariants.{Produce, Consume}
 use Rattle.calls_core.specs.declared.history.Reply.TheVariants.{Done, Number}
 use Rattle.calls_core.specs.declared.history.Call.{Call}
@@ -12,7 +13,7 @@ use Rattle.calls_core.proofs.Lists.{each_both}
 use Rattle.calls_core.proofs.Counting.{count_cons, one_yes, one_no}
 use Rattle.calls_buffers.specs.declared.ordering.Key.{Key}
 use Rattle.calls_buffers.specs.Queues.{Allows, items_after, IsQueueRun}
-use Rattle.calls_buffers.specs.Counts.{item, put_one, took_one, is_put, is_take}
+use Rattle.calls_buffers.specs.Counts.{any_item, put_one, took_one, is_put, is_take}
 use Rattle.calls_buffers.specs.kept.Orders.{slot, Before}
 
 -- a call that passes a test, and of which Q holds
@@ -31,22 +32,21 @@ passing test Q (c ∷ cs) h lt =
     ] refl
 
 -- when the items of ranks below m are put in and taken out, in a buffer with room for n
-pub record AreTimes (n m : ℕ) (put_at take_at item_of : ℕ → ℕ) (Taken : ℕ → Type 0) : Type 0 where
+pub record AreTimes (n m : ℕ) (put_at take_at : ℕ → ℕ) (Taken : ℕ → Type 0) : Type 0 where
   pub room : 0 < n
-  pub apart : (i k : ℕ) → i < m → k < m → item_of i ≡ item_of k → i ≡ k
   pub put_rises : (i k : ℕ) → i ≤ k → k < m → put_at i ≤ put_at k
   pub take_rises : (i k : ℕ) → i ≤ k → k < m → take_at i ≤ take_at k
   pub after : (k : ℕ) → k < m → put_at k ≤ take_at k
   pub freed : (i k : ℕ) → i + n ≤ k → k < m → take_at i ≤ put_at k
   pub freed_taken : (i k : ℕ) → i + n ≤ k → k < m → Taken i
-  pub told_first : (i k : ℕ) → i ≤ k → k < m → Taken k → Taken i
+  pub first_with_take : (i k : ℕ) → i ≤ k → k < m → Taken k → Taken i
 
 -- a call without effect
 pub record IsIdle (n : ℕ) (c : Call) : Type 0 where
   pub allowed : (items : List ℕ) → Allows n items c.op c.reply
   pub same : (items : List ℕ) → items_after items c.op c.reply ≡ items
-  pub no_put : (v : ℕ) → is_put (item v) c ≡ false
-  pub no_take : (v : ℕ) → is_take (item v) c ≡ false
+  pub no_put : is_put any_item c ≡ false
+  pub no_take : is_take any_item c ≡ false
 
 -- the produce of the item of a rank
 pub record IsPutOf (m : ℕ) (put_at item_of : ℕ → ℕ) (key : Call → Key) (c : Call) : Type 0 where
@@ -68,37 +68,73 @@ pub record IsTakeOf (m : ℕ) (take_at item_of : ℕ → ℕ) (Taken : ℕ → T
   pub slot : slot (key c) ≡ rank + rank + 1
   pub taken : Taken rank
 
+-- whether a call is the produce or the consume of the item of this rank
+abbrev pub puts_rank : (Call → Key) → ℕ → Call → Bool
+puts_rank key k c = is_put any_item c && (slot (key c) == k + k)
+
+abbrev pub takes_rank : (Call → Key) → ℕ → Call → Bool
+takes_rank key k c = is_take any_item c && (slot (key c) == k + k + 1)
+
 module _ (n m : ℕ) (put_at take_at item_of : ℕ → ℕ) (Taken : ℕ → Type 0) (key : Call → Key)
-    (t : AreTimes n m put_at take_at item_of Taken) where
+    (t : AreTimes n m put_at take_at Taken) where
   abbrev pub IsPlaced : Call → Type 0
   IsPlaced c = IsIdle n c ⊎ IsPutOf m put_at item_of key c ⊎ IsTakeOf m take_at item_of Taken key c
 
   abbrev puts : ℕ → Call → Bool
-  puts k = is_put (item (item_of k))
+  puts = puts_rank key
 
   abbrev takes : ℕ → Call → Bool
-  takes k = is_take (item (item_of k))
+  takes = takes_rank key
 
   -- WHICH TESTS A CALL PASSES
 
-  put_puts : (c : Call) (p : IsPutOf m put_at item_of key c) (k : ℕ)
-      → puts k c ≡ (item_of p.rank == item_of k)
-  put_puts c p k = ap (λ op. put_one (item (item_of k)) op c.reply) p.asks
-      ∙ ap (put_one (item (item_of k)) (Produce (item_of p.rank))) p.returns
+  pub idle_puts : (c : Call) → IsIdle n c → (k : ℕ) → puts k c ≡ false
+  idle_puts c h k = and_left (is_put any_item c) (slot (key c) == k + k) h.no_put
 
-  put_takes : (c : Call) (p : IsPutOf m put_at item_of key c) (k : ℕ) → takes k c ≡ false
-  put_takes c p k = ap (λ op. took_one (item (item_of k)) op c.reply) p.asks
+  pub idle_takes : (c : Call) → IsIdle n c → (k : ℕ) → takes k c ≡ false
+  idle_takes c h k = and_left (is_take any_item c) (slot (key c) == k + k + 1) h.no_take
 
-  take_takes : (c : Call) (p : IsTakeOf m take_at item_of Taken key c) (k : ℕ)
-      → takes k c ≡ (item_of p.rank == item_of k)
-  take_takes c p k = ap (λ op. took_one (item (item_of k)) op c.reply) p.asks
-      ∙ ap (took_one (item (item_of k)) Consume) p.returns
+  module _ (c : Call) (p : IsPutOf m put_at item_of key c) where
+    pub put_yes : (k : ℕ) → p.rank ≡ k → puts k c ≡ true
+    put_yes k e = and_from (is_put any_item c) (slot (key c) == k + k)
+        (ap (λ op. put_one any_item op c.reply) p.asks
+        ∙ ap (put_one any_item (Produce (item_of p.rank))) p.returns)
+        (let place = p.slot in eq-eqb (slot (key c)) (k + k) (omega arith))
 
-  take_puts : (c : Call) (p : IsTakeOf m take_at item_of Taken key c) (k : ℕ) → puts k c ≡ false
-  take_puts c p k = ap (λ op. put_one (item (item_of k)) op c.reply) p.asks
+    put_no : (k : ℕ) → (p.rank ≡ k → ⊥) → puts k c ≡ false
+    put_no k ne = and_right (is_put any_item c) (slot (key c) == k + k)
+        (ne_eqb (slot (key c)) (k + k) (λ e. ne (let place = p.slot in omega arith)))
 
-  other_item : (i k : ℕ) → i < m → k < m → (i ≡ k → ⊥) → (item_of i == item_of k) ≡ false
-  other_item i k li lk ne = ne_eqb (item_of i) (item_of k) (λ e. ne (t.apart i k li lk e))
+    pub put_rank_is : (k : ℕ) → puts k c ≡ true → p.rank ≡ k
+    put_rank_is k e =
+        let same = eqb-true (slot (key c)) (k + k)
+        (and_parts (is_put any_item c) (slot (key c) == k + k) e).1 in
+        let place = p.slot in omega arith
+
+    pub put_takes : (k : ℕ) → takes k c ≡ false
+    put_takes k = and_left (is_take any_item c) (slot (key c) == k + k + 1)
+        (ap (λ op. took_one any_item op c.reply) p.asks)
+
+  module _ (c : Call) (p : IsTakeOf m take_at item_of Taken key c) where
+    pub take_yes : (k : ℕ) → p.rank ≡ k → takes k c ≡ true
+    take_yes k e = and_from (is_take any_item c) (slot (key c) == k + k + 1)
+        (ap (λ op. took_one any_item op c.reply) p.asks
+        ∙ ap (took_one any_item Consume) p.returns)
+        (let place = p.slot in eq-eqb (slot (key c)) (k + k + 1) (omega arith))
+
+    take_no : (k : ℕ) → (p.rank ≡ k → ⊥) → takes k c ≡ false
+    take_no k ne = and_right (is_take any_item c) (slot (key c) == k + k + 1)
+        (ne_eqb (slot (key c)) (k + k + 1) (λ e. ne (let place = p.slot in omega arith)))
+
+    pub take_rank_is : (k : ℕ) → takes k c ≡ true → p.rank ≡ k
+    take_rank_is k e =
+        let same = eqb-true (slot (key c)) (k + k + 1)
+        (and_parts (is_take any_item c) (slot (key c) == k + k + 1) e).1 in
+        let place = p.slot in omega arith
+
+    pub take_puts : (k : ℕ) → puts k c ≡ false
+    take_puts k = and_left (is_put any_item c) (slot (key c) == k + k)
+        (ap (λ op. put_one any_item op c.reply) p.asks)
 
   -- WHAT IS STILL TO COME
 
@@ -127,9 +163,8 @@ module _ (n m : ℕ) (put_at take_at item_of : ℕ → ℕ) (Taken : ℕ → Typ
       (each_both IsPlaced (Before key c) (λ d. IsPlaced d × Before key c d) (λ d p b. (p, b)) cs pl
       ord) lt in
       elim r.holds.0 [
-        | inl idle ↦ absurd (let no = idle.no_put (item_of i) in let yes = r.passes in cc)
-        | inr (inl p) ↦ (let same : p.rank ≡ i = t.apart p.rank i p.below li (eqb-true
-            (item_of p.rank) (item_of i) (sym (put_puts r.call p i) ∙ r.passes)) in
+        | inl idle ↦ absurd (let no = idle_puts r.call idle i in let yes = r.passes in cc)
+        | inr (inl p) ↦ (let same : p.rank ≡ i = put_rank_is r.call p i r.passes in
             precedes c r.call (put_at i) (i + i) r.holds.1 (p.point ∙ ap put_at same)
             (p.slot ∙ ap (λ k. k + k) same))
         | inr (inr p) ↦ absurd (let no = take_puts r.call p i in let yes = r.passes in cc)
@@ -142,10 +177,9 @@ module _ (n m : ℕ) (put_at take_at item_of : ℕ → ℕ) (Taken : ℕ → Typ
       (each_both IsPlaced (Before key c) (λ d. IsPlaced d × Before key c d) (λ d p b. (p, b)) cs pl
       ord) lt in
       elim r.holds.0 [
-        | inl idle ↦ absurd (let no = idle.no_take (item_of i) in let yes = r.passes in cc)
+        | inl idle ↦ absurd (let no = idle_takes r.call idle i in let yes = r.passes in cc)
         | inr (inl p) ↦ absurd (let no = put_takes r.call p i in let yes = r.passes in cc)
-        | inr (inr p) ↦ (let same : p.rank ≡ i = t.apart p.rank i p.below li (eqb-true
-            (item_of p.rank) (item_of i) (sym (take_takes r.call p i) ∙ r.passes)) in
+        | inr (inr p) ↦ (let same : p.rank ≡ i = take_rank_is r.call p i r.passes in
             precedes c r.call (take_at i) (i + i + 1) r.holds.1 (p.point ∙ ap take_at same)
             (p.slot ∙ ap (λ k. k + k + 1) same))
       ]
@@ -156,9 +190,9 @@ module _ (n m : ℕ) (put_at take_at item_of : ℕ → ℕ) (Taken : ℕ → Typ
       → State j l cs
   idle_state j l c cs h s =
       let no_put : (i : ℕ) → count_by (puts i) (c ∷ cs) ≡ count_by (puts i) cs = λ i.
-      omega (arith, count_cons (puts i) c cs, one_no (puts i c) (h.no_put (item_of i))) in
+      omega (arith, count_cons (puts i) c cs, one_no (puts i c) (idle_puts c h i)) in
       let no_take : (i : ℕ) → count_by (takes i) (c ∷ cs) ≡ count_by (takes i) cs = λ i.
-      omega (arith, count_cons (takes i) c cs, one_no (takes i c) (h.no_take (item_of i))) in
+      omega (arith, count_cons (takes i) c cs, one_no (takes i c) (idle_takes c h i)) in
       record {
         within = s.within;
         puts_left = λ i le lt. sym (no_put i) ∙ s.puts_left i le lt;
@@ -175,18 +209,12 @@ module _ (n m : ℕ) (put_at take_at item_of : ℕ → ℕ) (Taken : ℕ → Typ
     put_own i e = omega (
       arith,
       count_cons (puts i) c cs,
-      one_yes (puts i c) (put_puts c p i
-          ∙ eq-eqb (item_of p.rank) (item_of i) (ap item_of (sym e))),
+      one_yes (puts i c) (put_yes c p i (sym e)),
     )
 
-    put_other : (i : ℕ) → i < m → (p.rank ≡ i → ⊥)
+    put_other : (i : ℕ) → (p.rank ≡ i → ⊥)
         → count_by (puts i) (c ∷ cs) ≡ count_by (puts i) cs
-    put_other i lt ne = omega (
-      arith,
-      count_cons (puts i) c cs,
-      one_no (puts i c) (put_puts c p i
-          ∙ other_item p.rank i p.below lt ne),
-    )
+    put_other i ne = omega (arith, count_cons (puts i) c cs, one_no (puts i c) (put_no c p i ne))
 
     put_no_take : (i : ℕ) → count_by (takes i) (c ∷ cs) ≡ count_by (takes i) cs
     put_no_take i = omega (arith, count_cons (takes i) c cs, one_no (takes i c) (put_takes c p i))
@@ -203,7 +231,7 @@ module _ (n m : ℕ) (put_at take_at item_of : ℕ → ℕ) (Taken : ℕ → Typ
                   arith,
                   s.puts_left (j + l)
                       (omega arith) k,
-                  put_other (j + l) k (λ e. omega arith),
+                  put_other (j + l) (λ e. omega arith),
                 )) in
                 let rise = t.put_rises (j + l) p.rank (omega arith) below in
                 let point = p.point in
@@ -242,13 +270,13 @@ module _ (n m : ℕ) (put_at take_at item_of : ℕ → ℕ) (Taken : ℕ → Typ
           within = omega arith;
           puts_left = λ i le lt. omega (
             arith,
-            put_other i lt (λ e. omega arith),
+            put_other i (λ e. omega arith),
             s.puts_left i (omega arith) lt,
           );
           puts_done = λ i lt. elim (cases_lt i (j + l)) [
             | inl less ↦ omega (
               arith,
-              put_other i (omega arith) (λ e. omega arith),
+              put_other i (λ e. omega arith),
               s.puts_done i less,
             )
             | inr ge ↦ (let is : i ≡ p.rank = omega arith in
@@ -266,17 +294,15 @@ module _ (n m : ℕ) (put_at take_at item_of : ℕ → ℕ) (Taken : ℕ → Typ
     take_own i e = omega (
       arith,
       count_cons (takes i) c cs,
-      one_yes (takes i c) (take_takes c p i
-          ∙ eq-eqb (item_of p.rank) (item_of i) (ap item_of (sym e))),
+      one_yes (takes i c) (take_yes c p i (sym e)),
     )
 
-    take_other : (i : ℕ) → i < m → (p.rank ≡ i → ⊥)
+    take_other : (i : ℕ) → (p.rank ≡ i → ⊥)
         → count_by (takes i) (c ∷ cs) ≡ count_by (takes i) cs
-    take_other i lt ne = omega (
+    take_other i ne = omega (
       arith,
       count_cons (takes i) c cs,
-      one_no (takes i c)
-          (take_takes c p i ∙ other_item p.rank i p.below lt ne),
+      one_no (takes i c) (take_no c p i ne),
     )
 
     take_no_put : (i : ℕ) → count_by (puts i) (c ∷ cs) ≡ count_by (puts i) cs
@@ -293,8 +319,8 @@ module _ (n m : ℕ) (put_at take_at item_of : ℕ → ℕ) (Taken : ℕ → Typ
                 let r = later_take c cs j k pl ord (omega (
                   arith,
                   s.takes_left j
-                      (omega arith) k (t.told_first j p.rank (omega arith) below p.taken),
-                  take_other j k (λ e. omega arith),
+                      (omega arith) k (t.first_with_take j p.rank (omega arith) below p.taken),
+                  take_other j (λ e. omega arith),
                 )) in
                 let rise = t.take_rises j p.rank (omega arith) below in
                 let point = p.point in
@@ -333,13 +359,13 @@ module _ (n m : ℕ) (put_at take_at item_of : ℕ → ℕ) (Taken : ℕ → Typ
           puts_done = λ i lt. omega (arith, take_no_put i, s.puts_done i (omega arith));
           takes_left = λ i le lt k. omega (
             arith,
-            take_other i lt (λ e. omega arith),
+            take_other i (λ e. omega arith),
             s.takes_left i (omega arith) lt k,
           );
           takes_done = λ i lt. elim (cases_lt i j) [
             | inl less ↦ omega (
               arith,
-              take_other i (omega arith) (λ e. omega arith),
+              take_other i (λ e. omega arith),
               s.takes_done i less,
             )
             | inr ge ↦ (let is : i ≡ p.rank = omega arith in

@@ -25,7 +25,8 @@ use Rattle.calls_core.proofs.Counting.{split_at}
 use Rattle.calls_buffers.specs.declared.fault.Fault.{Fault}
 use Rattle.calls_buffers.specs.declared.fault.Fault.TheVariants.{Unproduced, Overfull, Crowded}
 use Rattle.calls_buffers.specs.declared.fault.Fault.TheVariants.{Overtaken, Passed, Squeezed}
-use Rattle.calls_buffers.specs.declared.fault.Fault.TheVariants.{Overdue}
+use Rattle.calls_buffers.specs.declared.fault.Fault.TheVariants.{Overdue, Outrun}
+use Rattle.calls_buffers.specs.declared.fault.Flow.TheVariants.{In, Out}
 use Rattle.calls_buffers.specs.Queues.{IsQueueRun}
 use Rattle.calls_buffers.specs.Counts.{any_item, item, produces, is_consume, put_one}
 use Rattle.calls_buffers.specs.Counts.{is_put, is_take, returned_puts, invoked_puts, all_puts}
@@ -39,8 +40,11 @@ use Rattle.calls_buffers.proofs.Flows.{IsBounded, bounded}
 use Rattle.calls_buffers.proofs.Cuts.{Lasts, Cut, cut, not_before, PutAt, put_at}
 use Rattle.calls_buffers.proofs.Asking.{put_asked, take_asked, none_untaken}
 use Rattle.calls_schedule.proofs.Ranks.{no_ranks}
+use Rattle.calls_turns.proofs.Lasting.{no_taking}
 use Rattle.calls_buffers.proofs.Squeezing.{no_squeeze}
 use Rattle.calls_buffers.proofs.Standing.{most, rank, have_ranks}
+use Rattle.calls_buffers.proofs.Taking.{outrun_out}
+use Rattle.calls_buffers.proofs.Putting.{outrun_in}
 use Rattle.calls_buffers.proofs.Tallies.{all_last, all_keep, queue, counted}
 use Rattle.calls_buffers.proofs.Tallies.{returned_in_front, invoked_in_back, front_invoked}
 
@@ -263,6 +267,12 @@ module _ (n t : ℕ) (done : List Call) (pending : List PendingCall) (cs : List 
       let r = have_ranks n t done pending cs l h s.end s.jobs s.are in
       no_ranks n s.jobs (reverse bounds.items) (most n t done pending cs l h s.end s.jobs s.are)
       (rank n t done pending cs l h s.end s.jobs s.are) s.refuted r
+  no_order (Outrun Out steps turn clash) s =
+      let r = outrun_out n t done pending cs l h s.end s.within s.turns s.takers s.are in
+      no_taking s.end s.turns s.takers r.0 (reverse steps.items) turn s.refuted r.1
+  no_order (Outrun In steps turn clash) s =
+      let r = outrun_in n t done pending cs l h s.end s.within s.turns s.takers s.are in
+      no_taking s.end s.turns s.takers r.0 (reverse steps.items) turn s.refuted r.1
 
 pub fault_leaves_no_order : (n : ℕ) (past : List Event) (f : Fault) (t : ℕ) (cs : List Call)
     → IsHistoryOf (Buffer n) past → clock past ≤ t → Shows n past f

@@ -3,13 +3,11 @@ use Rattle.std.proofs.Common.{◌≡◌, ℕ, ◌+◌, ◌<◌, ◌≤◌, ◌�
 use Rattle.std.proofs.Common.{nat_lt, if◌then◌else◌, get_or, List, [], ◌∷◌, ◌++◌, Some, refl, ap, sym}
 use Rattle.std.proofs.Common.{◌∙◌, subst, arith, count_by, append_assoc}
 use Rattle.std.specs.List.{Contains}
-use Rattle.std.proofs.lemmas.Bool.{cases_lt, eq-eqb, leb-true, le-leb, lt-leb, ltb-true, lt-ltb}
+use Rattle.std.proofs.lemmas.Bool.{cases_lt, eq-eqb, le-leb, lt-leb, ltb-true, lt-ltb}
 use Rattle.std.proofs.lemmas.Bool.{le-ltb, and_from, and_right, and_parts}
 use Rattle.std.proofs.lemmas.List.{get_or_default}
 use Rattle.calls_core.specs.declared.history.Kind.TheVariants.{Buffer}
 use Rattle.calls_core.specs.declared.history.Op.TheVariants.{Produce, Consume}
-use Rattle.calls_core.specs.declared.history.Reply.{Reply}
-use Rattle.calls_core.specs.declared.history.Reply.TheVariants.{Done, Number}
 use Rattle.calls_core.specs.declared.history.PendingCall.{PendingCall}
 use Rattle.calls_core.specs.declared.history.Call.{Call}
 use Rattle.calls_core.specs.Lists.{Each, EachPair}
@@ -18,16 +16,16 @@ use Rattle.calls_core.specs.Linearizations.{IsLegalHistory, KeepsOrder, initial,
 use Rattle.calls_core.specs.Calls.{AreCallsOf}
 use Rattle.calls_core.proofs.Lists.{each_weaker, all_from_each}
 use Rattle.calls_core.proofs.Filters.{each_from_all}
-use Rattle.calls_core.proofs.Counting.{one, one_yes, one_no, count_cons, count_append}
+use Rattle.calls_core.proofs.Counting.{count_cons, count_append}
 use Rattle.calls_schedule.specs.declared.job.Job.{Job}
 use Rattle.calls_schedule.specs.Schedules.{IsTimed, AreCounts, AreRanks}
 use Rattle.calls_buffers.specs.Queues.{IsQueueRun}
 use Rattle.calls_buffers.specs.Counts.{item, produces, is_consume, put_one, took_one, is_put, is_take}
-use Rattle.calls_buffers.specs.Jobs.{IsProduceOf, IsConsumeOf, IsPutBefore, IsTakenBefore}
-use Rattle.calls_buffers.specs.Jobs.{IsInBefore, IsPutCompleted, IsPutPending, IsPutInvoked, IsOnce}
-use Rattle.calls_buffers.specs.Jobs.{IsTakenFrom, IsPutFrom, Stays, IsOutFrom, IsBehind, IsAhead}
+use Rattle.calls_buffers.specs.Jobs.{IsProduceOf, IsConsumeOf, IsTakenBefore}
+use Rattle.calls_buffers.specs.Jobs.{IsInBefore, IsPutInvoked, IsOnce}
+use Rattle.calls_buffers.specs.Jobs.{IsOutFrom, IsBehind, IsAhead}
 use Rattle.calls_buffers.specs.Jobs.{IsJob, AreJobs}
-use Rattle.calls_buffers.proofs.Flows.{put_items, taken_items, put_append, taken_append, run_first}
+use Rattle.calls_buffers.proofs.Flows.{put_items, taken_items, put_append, run_first}
 use Rattle.calls_buffers.proofs.Flows.{Leaves, leaves, count_put, count_taken, bounded}
 use Rattle.calls_buffers.proofs.Cuts.{Lasts, not_before}
 use Rattle.calls_buffers.proofs.Asking.{put_asked, take_asked, count_some}
@@ -35,9 +33,9 @@ use Rattle.calls_buffers.proofs.Tallies.{all_last, all_keep, queue, counted, don
 use Rattle.calls_buffers.proofs.Tallies.{count_under, count_zero}
 use Rattle.calls_buffers.proofs.Firsts.{times, times_append, before, not_before_itself, all_before}
 use Rattle.calls_buffers.proofs.Firsts.{before_in, no_more_before, one_is_before, before_before}
-use Rattle.calls_buffers.proofs.Firsts.{holds, held, some_held, holds_some, holds_none, held_within}
+use Rattle.calls_buffers.proofs.Firsts.{holds, held, some_held, holds_none, held_within}
 use Rattle.calls_buffers.proofs.Firsts.{held_fewer, held_append, count_implied, count_strictly}
-use Rattle.calls_buffers.proofs.Firsts.{IsWithin, AreApart}
+use Rattle.calls_buffers.proofs.Firsts.{IsWithin}
 
 -- THE CALLS BEFORE A POSITION
 

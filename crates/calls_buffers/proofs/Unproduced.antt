@@ -18,9 +18,11 @@ use Rattle.calls_buffers.specs.declared.accesses.Place.TheVariants.{Completed, P
 use Rattle.calls_buffers.specs.declared.accesses.Access.{Access}
 use Rattle.calls_buffers.specs.Counts.{item, all_puts, put_one, took_one}
 use Rattle.calls_buffers.specs.Counts.{invoked_puts, completed_puts, pending_puts, returned_takes}
-use Rattle.calls_buffers.specs.kept.Items.{taken_item, put_item}
-use Rattle.calls_buffers.specs.kept.Accesses.{accesses, asked, Ascend, ByItem, IsRepeated, later}
-use Rattle.calls_buffers.specs.kept.Accesses.{no_access, find_access}
+use Rattle.calls_buffers.specs.Accesses.{taken_item, put_item}
+use Rattle.calls_buffers.specs.kept.Accesses.{Ascend, ByItem, IsRepeated, later}
+use Rattle.calls_buffers.specs.Accesses.{accesses, asked}
+use Rattle.calls_buffers.specs.kept.Accesses.{find_access}
+use Rattle.calls_buffers.specs.Accesses.{no_access}
 use Rattle.calls_buffers.specs.kept.Pairs.{fits_put, IsUnfit, IsUnproduced}
 use Rattle.calls_buffers.proofs.Untaking.{took_item}
 use Rattle.calls_buffers.proofs.Asking.{count_some}
@@ -29,7 +31,8 @@ use Rattle.calls_buffers.proofs.ByItems.{count_asked, count_found}
 use Rattle.calls_buffers.specs.declared.windows.Window.{Window}
 use Rattle.calls_buffers.specs.kept.Pairs.{ArePaired}
 use Rattle.calls_buffers.specs.kept.Pairs.{AreNotPaired}
-use Rattle.calls_buffers.specs.kept.Windows.{AreWindows, AreWithin}
+use Rattle.calls_buffers.specs.kept.Windows.{AreWindows}
+use Rattle.calls_buffers.specs.Accesses.{AreWithin}
 use Rattle.calls_buffers.proofs.AreWindows.{puts_counted, take_of, are_windows}
 
 -- two neighbours that pass a test

@@ -12,7 +12,7 @@ use Rattle.calls_core.specs.declared.history.Reply.TheVariants.{Done, Number, Ti
 use Rattle.calls_core.specs.declared.history.Call.{Call}
 use Rattle.calls_core.proofs.Counting.{one, count_cons, count_append}
 use Rattle.calls_buffers.specs.Counts.{item, took_one, is_take, invoked_takes, untaken}
-use Rattle.calls_buffers.specs.kept.Items.{taken_item}
+use Rattle.calls_buffers.specs.Accesses.{taken_item}
 
 abbrev pub passes : (ℕ → Bool) → Option ℕ → Bool
 passes test None = false

@@ -2,8 +2,6 @@
 -- of others, by one of their positions. A call that timed out is not counted.
 use Rattle.std.specs.Prelude.{◌≡◌, ℕ, ◌+◌, ◌<◌, ◌≤◌, ◌⊎◌, List, reverse}
 use Rattle.std.specs.List.{Contains}
-use Rattle.calls_core.specs.declared.history.Op.TheVariants.{Produce, Consume}
-use Rattle.calls_core.specs.declared.history.Reply.TheVariants.{Done, Number}
 use Rattle.calls_core.specs.declared.history.Event.{Event}
 use Rattle.calls_core.specs.declared.history.PendingCall.{PendingCall}
 use Rattle.calls_core.specs.declared.history.Call.{Call}
@@ -11,14 +9,22 @@ use Rattle.calls_core.specs.Histories.{pending_calls, completed_calls}
 use Rattle.calls_schedule.specs.declared.job.Job.{Job}
 use Rattle.calls_schedule.specs.declared.job.Bound.{Bound}
 use Rattle.calls_schedule.specs.Schedules.{Refute}
+use Rattle.calls_turns.specs.declared.turn.Turn.{Turn}
+use Rattle.calls_turns.specs.declared.turn.Taker.{Taker}
+use Rattle.calls_turns.specs.declared.turn.Step.{Step}
+use Rattle.calls_turns.specs.declared.turn.Clash.{Clash}
+use Rattle.calls_turns.specs.Steps as steps_of
 use Rattle.calls_buffers.specs.declared.fault.Fault.{Fault}
 use Rattle.calls_buffers.specs.declared.fault.Fault.TheVariants.{Unproduced, Overfull, Crowded}
 use Rattle.calls_buffers.specs.declared.fault.Fault.TheVariants.{Overtaken, Passed, Squeezed}
-use Rattle.calls_buffers.specs.declared.fault.Fault.TheVariants.{Overdue}
+use Rattle.calls_buffers.specs.declared.fault.Fault.TheVariants.{Overdue, Outrun}
+use Rattle.calls_buffers.specs.declared.fault.Flow.{Flow}
 use Rattle.calls_buffers.specs.Counts.{any_item, item, untaken, returned_puts, invoked_puts}
 use Rattle.calls_buffers.specs.Counts.{all_puts, returned_takes, invoked_takes, later_takes}
 use Rattle.calls_buffers.specs.Counts.{pending_takes}
 use Rattle.calls_buffers.specs.Jobs.{IsProduceOf, IsConsumeOf, AreJobs}
+use Rattle.calls_buffers.specs.Turns.{AreTurns}
+use Rattle.calls_buffers.specs.Accesses.{AreWithin}
 
 -- up to the response of c, so many consumes had returned its item, and fewer produces of it were
 -- invoked
@@ -103,6 +109,18 @@ pub record FromOverdue (n : ℕ) (done : List Call) (pending : List PendingCall)
   pub are : AreJobs done pending end jobs
   pub refuted : Refute n jobs (reverse bounds)
 
+-- items are taken out, or put in, in an order that is known. At least so many have to be by some
+-- positions that one of them can't be by then. All calls are before `end`
+pub record FromOutrun (n : ℕ) (done : List Call) (pending : List PendingCall) (flow : Flow)
+    (steps : List Step) (turn : ℕ) (clash : Clash) : Type 0 where
+  pub end : ℕ
+  pub within : AreWithin end done pending
+  pub turns : List Turn
+  pub takers : List Taker
+  pub are : AreTurns flow n end done pending turns takers
+  pub refuted : steps_of.Refute end turns takers (reverse steps) turn
+  pub clashes : steps_of.IsClash turns takers (steps_of.last_at (reverse steps)) turn clash
+
 -- completed and pending calls of a buffer with room for n items show a fault
 abbrev pub ShowsIn : ℕ → List Call → List PendingCall → Fault → Type 0
 ShowsIn n done pending (Unproduced c taken put) = FromUnproduced done pending c taken put
@@ -113,6 +131,8 @@ ShowsIn n done pending (Overtaken p c before later all) =
 ShowsIn n done pending (Passed p c left asked) = FromPassed done pending p c left asked
 ShowsIn n done pending (Squeezed q p left asked) = FromSqueezed n done pending q p left asked
 ShowsIn n done pending (Overdue bounds) = FromOverdue n done pending bounds.items
+ShowsIn n done pending (Outrun flow steps turn clash) =
+    FromOutrun n done pending flow steps.items turn clash
 
 -- a history shows a fault
 abbrev pub Shows : ℕ → List Event → Fault → Type 0

@@ -1,6 +1,8 @@
 pub mod Queues
 pub mod Counts
 pub mod Jobs
+pub mod Accesses
+pub mod Turns
 pub mod Faults
 pub mod Outcomes
 pub mod Laws

@@ -1,5 +1,6 @@
 -- What is decided of the calls of a buffer.
-use Rattle.std.specs.Prelude.{◌≡◌, ℕ, ◌+◌, ◌<◌, ◌≤◌, ◌^◌, ◌⊎◌, List, reverse, count_by}
+use Rattle.std.specs.Prelude.{◌≡◌, ℕ, ◌+◌, ◌<◌, ◌≤◌, ◌^◌, ◌⊎◌, List, reverse, count_by, IsTrue}
+use Rattle.std.specs.List.{Contains}
 use Rattle.calls_core.specs.declared.history.Kind.TheVariants.{Buffer}
 use Rattle.calls_core.specs.declared.history.Event.{Event}
 use Rattle.calls_core.specs.declared.history.PendingCall.{PendingCall}
@@ -8,7 +9,7 @@ use Rattle.calls_core.specs.Histories.{completed_calls, pending_calls}
 use Rattle.calls_core.specs.Outcomes.{IsOrderOf}
 use Rattle.calls_buffers.specs.declared.deciding.Outcome.{Outcome}
 use Rattle.calls_buffers.specs.declared.deciding.Outcome.TheVariants.{Ordered, Refused, NotDecided}
-use Rattle.calls_buffers.specs.Counts.{item, is_take, is_consume, all_puts}
+use Rattle.calls_buffers.specs.Counts.{any_item, item, is_put, is_take, is_consume, produces, all_puts}
 use Rattle.calls_buffers.specs.Jobs.{IsProduceOf}
 use Rattle.calls_buffers.specs.Faults.{Shows}
 
@@ -24,10 +25,29 @@ pub record AreDistinct (done : List Call) (pending : List PendingCall) : Type 0 
   pub once : (v : ℕ) → all_puts (item v) done pending ≤ 1
   pub answered : AreAnswered done pending
 
--- the calls of a buffer with room for n items are of the class that is always decided
+-- of two produces that put an item in, one returned before the other was invoked. And no consume is
+-- pending
+pub record AreInTurn (done : List Call) (pending : List PendingCall) : Type 0 where
+  pub apart : (c d : Call) → Contains done c → Contains done d → IsTrue (is_put any_item c)
+      → IsTrue (is_put any_item d) → c.first < d.first → c.last < d.first
+  pub last : (c : Call) (o : PendingCall) → Contains done c → Contains pending o
+      → IsTrue (is_put any_item c) → IsTrue (produces any_item o.op) → c.last < o.first
+  pub few : count_by (λ (o : PendingCall). produces any_item o.op) pending ≤ 1
+  pub none : count_by (λ (o : PendingCall). is_consume o.op) pending ≡ 0
+
+-- of two consumes that returned an item, one returned before the other was invoked. And no more
+-- items may have been put in than were returned
+pub record AreTakenInTurn (done : List Call) (pending : List PendingCall) : Type 0 where
+  pub apart : (c d : Call) → Contains done c → Contains done d → IsTrue (is_take any_item c)
+      → IsTrue (is_take any_item d) → c.first < d.first → c.last < d.first
+  pub few : all_puts any_item done pending ≤ count_by (is_take any_item) done
+
+-- the calls of a buffer with room for n items are of a class that is always decided
 pub record IsSimple (n : ℕ) (past : List Event) : Type 0 where
   pub room : 0 < n
   pub items : AreDistinct (completed_calls past) (pending_calls past)
+      ⊎ AreInTurn (completed_calls past) (pending_calls past)
+      ⊎ AreTakenInTurn (completed_calls past) (pending_calls past)
 
 -- the calls have this linearization, in which a pending call that took effect has its response at
 -- t; or they show this fault; or they are not of that class, unless t is the last position of all

@@ -2,8 +2,9 @@
 ghost use Rattle.std.specs.Prelude.{◌≡◌, ◌++◌, IfOk, MatchOption};
 ghost use Rattle.std.specs.List.Sorted.{IsNonDecreasingBy, IsPermutation};
 ghost use Rattle.calls_buffers.specs.declared.accesses.Access.{Access};
-ghost use Rattle.calls_buffers.specs.kept.Items.{put_item, taken_item};
-ghost use Rattle.calls_buffers.specs.kept.Accesses.{accesses, asked, find_access, ByItem};
+ghost use Rattle.calls_buffers.specs.Accesses.{put_item, taken_item};
+ghost use Rattle.calls_buffers.specs.kept.Accesses.{find_access, ByItem};
+ghost use Rattle.calls_buffers.specs.Accesses.{accesses, asked};
 ghost use Rattle.calls_buffers.specs.kept.Accesses.{Ascend, IsRepeated};
 
 use crate::items::{produced_item, put_item, taken_item};
@@ -33,7 +34,7 @@ pub(crate) struct Access {
 }
 
 /// Lists the completed produces that took effect.
-fn completed_puts(alloc: Global, done: &[Call]) -> Result<Vec<Access>, AllocError>
+pub(crate) fn completed_puts(alloc: Global, done: &[Call]) -> Result<Vec<Access>, AllocError>
     ensures { IfOk result (λ list. list.items ≡ accesses put_item 0 done.now) }
 {
     let mut list = Vec::new(alloc);
@@ -51,7 +52,7 @@ fn completed_puts(alloc: Global, done: &[Call]) -> Result<Vec<Access>, AllocErro
 }
 
 /// Lists the consumes that returned an item.
-fn completed_takes(alloc: Global, done: &[Call]) -> Result<Vec<Access>, AllocError>
+pub(crate) fn completed_takes(alloc: Global, done: &[Call]) -> Result<Vec<Access>, AllocError>
     ensures { IfOk result (λ list. list.items ≡ accesses taken_item 0 done.now) }
 {
     let mut list = Vec::new(alloc);
@@ -69,7 +70,7 @@ fn completed_takes(alloc: Global, done: &[Call]) -> Result<Vec<Access>, AllocErr
 }
 
 /// Adds the pending produces, as if they returned at `end`.
-fn add_pending(
+pub(crate) fn add_pending(
     list: &mut Vec<Access>,
     pending: &[PendingCall],
     end: usize,

@@ -10,12 +10,13 @@ ghost use Rattle.calls_core.specs.Calls.{AreCallsOf};
 ghost use Rattle.calls_schedule.specs.Schedules.{Refute};
 ghost use Rattle.calls_buffers.specs.Jobs.{AreJobs};
 ghost use Rattle.calls_buffers.specs.Faults.{ShowsIn};
-ghost use Rattle.calls_buffers.specs.Outcomes.{IsOutcome};
+ghost use Rattle.calls_buffers.specs.Outcomes.{AreDistinct, IsOutcome};
+ghost use Rattle.calls_buffers.specs.kept.Spans.{AreInvokedApart};
 ghost use Rattle.calls_buffers.specs.declared.accesses.Place.{Place};
 ghost use Rattle.calls_buffers.specs.declared.windows.Window.{Window};
 ghost use Rattle.calls_buffers.specs.kept.Windows.{AreWindows};
 ghost use Rattle.calls_buffers.specs.kept.Pairs.{IsUnproduced};
-ghost use Rattle.calls_buffers.specs.kept.Decisions.{AllTold, NoneAsked, Fits, AreSimple, IsAnswer};
+ghost use Rattle.calls_buffers.specs.kept.Decisions.{AllReturned, NoneAsked, Fits, AreSimple, IsAnswer};
 
 use crate::Fault;
 use crate::accesses::Place;
@@ -25,6 +26,7 @@ use crate::planning::{find_order, order_of};
 use crate::ranking::{Ranking, ranked};
 use crate::recorded::{Recorded, record};
 use crate::testing::unproduced;
+use crate::turns::{Turned, by_turns};
 use crate::windows::{Window, Windows, windows_of};
 use calls_core::{Part, PendingCall, PlacedCalls};
 use calls_schedule::{Bound, Job, prune};
@@ -43,8 +45,8 @@ pub enum Outcome {
 }
 
 /// Returns whether each item was returned before `end`.
-fn are_told(windows: &[Window], end: usize) -> bool
-    ensures { IsTrue result ↔ AllTold windows.now end }
+fn are_returned(windows: &[Window], end: usize) -> bool
+    ensures { IsTrue result ↔ AllReturned windows.now end }
 {
     let kept = windows.iter().filter(|window| window.take_last >= end);
     kept.count() == 0
@@ -59,14 +61,18 @@ fn none_asked(pending: &[PendingCall]) -> bool
 
 /// Returns whether no pending consume may have taken an item: each item was returned before `end`,
 /// or no consume is pending.
-fn is_told(calls: &Recorded, windows: &[Window], end: usize) -> bool
-    ensures { IsTrue result ↔ (AllTold windows.now end ⊎ NoneAsked calls.now.pending.items) }
+fn is_settled(calls: &Recorded, windows: &[Window], end: usize) -> bool
+    ensures { IsTrue result ↔ (AllReturned windows.now end ⊎ NoneAsked calls.now.pending.items) }
 {
-    are_told(windows, end) || none_asked(&calls.pending)
+    are_returned(windows, end) || none_asked(&calls.pending)
 }
 
 /// Lists the items that were returned.
-fn told(alloc: Global, windows: &[Window], end: usize) -> Result<Vec<Window>, AllocError>
+fn returned_windows(
+    alloc: Global,
+    windows: &[Window],
+    end: usize,
+) -> Result<Vec<Window>, AllocError>
     ensures { IfOk result (λ list. list.items ≡ filter (λ (w : Window). nat_lt w.take_last end)
         windows.now) }
 {
@@ -125,6 +131,30 @@ fn search(
     }
 }
 
+/// Decides by the turns of taking items out or putting them in, if these follow one another.
+fn decide_in_turn(
+    alloc: Global,
+    room: usize,
+    calls: &Recorded,
+    windows: &[Window],
+    end: usize,
+) -> Result<Outcome, AllocError>
+    requires calls { AreCallsOf (Buffer room) calls.now.done.items calls.now.pending.items end }
+    requires apart { AreInvokedApart calls.now.done.items calls.now.pending.items }
+    ensures { IfOk result (λ o.
+        (Fits end → AreDistinct calls.now.done.items calls.now.pending.items → ⊥)
+        → IsAnswer room calls.now.done.items calls.now.pending.items end o) }
+{
+    match by_turns(alloc, room, calls, end)? {
+        Some(Turned::Refuted(fault)) => Ok(Outcome::Refused(fault)),
+        Some(Turned::Ranked(order)) => match order_of(alloc, room, calls, &order, &[], end)? {
+            Some(order) => Ok(Outcome::Ordered(order)),
+            None => Ok(Outcome::NotDecided),
+        },
+        None => search(alloc, room, calls, windows, end),
+    }
+}
+
 /// Decides by the ranks of all items. No pending consume may have taken one of them.
 fn decide_all(
     alloc: Global,
@@ -137,7 +167,7 @@ fn decide_all(
     ensures { IfOk result (λ o. AreCallsOf (Buffer room) calls.now.done.items
         calls.now.pending.items end
         → AreWindows calls.now.done.items calls.now.pending.items end windows.now → Fits end
-        → AllTold windows.now end ⊎ NoneAsked calls.now.pending.items
+        → AllReturned windows.now end ⊎ NoneAsked calls.now.pending.items
         → IsAnswer room calls.now.done.items calls.now.pending.items end o) }
 {
     match ranked(alloc, room, windows, end)? {
@@ -153,7 +183,7 @@ fn decide_all(
 }
 
 /// Decides by the ranks of the items that were returned, if these have none.
-fn decide_told(
+fn decide_returned(
     alloc: Global,
     room: usize,
     calls: &Recorded,
@@ -161,18 +191,20 @@ fn decide_told(
     end: usize,
     upto: usize,
 ) -> Result<Outcome, AllocError>
+    requires calls { AreCallsOf (Buffer room) calls.now.done.items calls.now.pending.items end }
+    requires apart { AreInvokedApart calls.now.done.items calls.now.pending.items }
     ensures { IfOk result (λ o.
         AreWindows calls.now.done.items calls.now.pending.items end windows.now → Fits end
-        → (Fits end → AreSimple room calls.now.done.items calls.now.pending.items → ⊥)
+        → (Fits end → AreDistinct calls.now.done.items calls.now.pending.items → ⊥)
         → IsAnswer room calls.now.done.items calls.now.pending.items end o) }
 {
-    let told = told(alloc, windows, end)?;
-    match ranked(alloc, room, &told, end)? {
+    let returned_windows = returned_windows(alloc, windows, end)?;
+    match ranked(alloc, room, &returned_windows, end)? {
         Ranking::Refuted(jobs, bounds) => {
             let fault = overdue(alloc, room, &jobs, bounds, upto)?;
             Ok(Outcome::Refused(fault))
         }
-        Ranking::Ranked(_) => search(alloc, room, calls, windows, end),
+        Ranking::Ranked(_) => decide_in_turn(alloc, room, calls, windows, end),
     }
 }
 
@@ -185,15 +217,16 @@ fn decide_distinct(
     end: usize,
     upto: usize,
 ) -> Result<Outcome, AllocError>
-    ensures { IfOk result (λ o. AreCallsOf (Buffer room) calls.now.done.items
-        calls.now.pending.items end
-        → AreWindows calls.now.done.items calls.now.pending.items end windows.now → Fits end
+    requires calls { AreCallsOf (Buffer room) calls.now.done.items calls.now.pending.items end }
+    requires apart { AreInvokedApart calls.now.done.items calls.now.pending.items }
+    ensures { IfOk result (λ o.
+        AreWindows calls.now.done.items calls.now.pending.items end windows.now → Fits end
         → IsAnswer room calls.now.done.items calls.now.pending.items end o) }
 {
-    if is_told(calls, windows, end) {
+    if is_settled(calls, windows, end) {
         return decide_all(alloc, room, calls, windows, end, upto);
     }
-    decide_told(alloc, room, calls, windows, end, upto)
+    decide_returned(alloc, room, calls, windows, end, upto)
 }
 
 /// Returns the first position after the events.
@@ -205,8 +238,9 @@ fn after(events: &Part<'_, '_>) -> usize {
 }
 
 /// Decides whether the calls of a buffer with room for so many items have a linearization. It always
-/// does so if no item is put in twice and no pending consume may have taken one. `end` is a position
-/// after all events.
+/// does so if no item is put in twice and no pending consume may have taken one; or no two produces
+/// overlap and no consume is pending; or no two consumes overlap and no more was put in than was
+/// returned. `end` is a position after all events.
 pub fn decide(
     alloc: Global,
     room: usize,
@@ -228,5 +262,5 @@ pub fn decide(
     if windows.distinct && end < usize::MAX {
         return decide_distinct(alloc, room, &calls, &windows.list, end, after(events));
     }
-    search(alloc, room, &calls, &windows.list, end)
+    decide_in_turn(alloc, room, &calls, &windows.list, end)
 }

@@ -1,7 +1,17 @@
 //! Why the calls of a buffer have no linearization.
 use calls_core::Call;
 use calls_schedule::Bound;
+use calls_turns::{Clash, Step};
 use std::alloc::Global;
+
+/// Which way items are counted.
+#[derive(Clone, Copy, Debug, PartialEq, Eq)]
+pub enum Flow {
+    /// They are put in.
+    In,
+    /// They are taken out.
+    Out,
+}
 
 /// Completed calls and counts that show that no linearization exists. A call that timed out has no
 /// effect and is not counted. An item is *taken by* a position if a consume that returned it was
@@ -65,5 +75,14 @@ pub enum Fault {
     /// than the first ones, of which they are.
     Overdue {
         bounds: Vec<Bound>,
+    },
+    /// If items are taken out, or put in, in the order that is known, then at least so many are by
+    /// each of these positions. The last number needs the item at this index, for which that can't
+    /// be by then.
+    Outrun {
+        flow: Flow,
+        steps: Vec<Step>,
+        turn: usize,
+        clash: Clash,
     },
 }

@@ -1,7 +1,8 @@
 //! The items that a count is about.
 ghost use Rattle.std.specs.Prelude.{◌≡◌, ℕ, IfOk};
 ghost use Rattle.calls_buffers.specs.Counts.{untaken};
-ghost use Rattle.calls_buffers.specs.kept.Items.{counts, taken_item, produced_item, put_item};
+ghost use Rattle.calls_buffers.specs.kept.Items.{counts};
+ghost use Rattle.calls_buffers.specs.Accesses.{taken_item, produced_item, put_item};
 
 use calls_core::{Call, Op, Reply};
 use std::alloc::{AllocError, Global};

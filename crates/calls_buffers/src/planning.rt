@@ -8,6 +8,7 @@ ghost use Rattle.calls_core.specs.Calls.{AreCallsOf};
 ghost use Rattle.calls_buffers.specs.declared.windows.Window.{Window};
 ghost use Rattle.calls_buffers.specs.kept.Orders.{same_pair, IsFound};
 ghost use Rattle.calls_buffers.specs.kept.Windows.{AreWindows, AreRanked};
+ghost use Rattle.calls_buffers.specs.kept.Spans.{AreInvokedApart, AreSpans};
 ghost use Rattle.calls_buffers.specs.kept.Plans.{no_stay, stay_at, IsNext, AreStays, put_pair};
 ghost use Rattle.calls_buffers.specs.kept.Plans.{put_key, take_pair, take_key, ArePlaces, IsPlan};
 ghost use Rattle.calls_buffers.specs.kept.Plans.{answer_of};
@@ -216,6 +217,11 @@ pub(crate) fn order_of(
     ensures found { (ws : List Window) → AreCallsOf (Buffer room) calls.now.done.items
         calls.now.pending.items end → AreWindows calls.now.done.items calls.now.pending.items end ws
         → AreRanked room ws order.now → 0 < room
+        → ((i : ℕ) → slice_index_or taken.now i None ≡ None) → IfOk result (λ order. IsSome order) }
+    ensures spread { AreCallsOf (Buffer room) calls.now.done.items calls.now.pending.items end
+        → AreInvokedApart calls.now.done.items calls.now.pending.items
+        → AreSpans calls.now.done.items calls.now.pending.items end order.now
+        → AreRanked room order.now order.now → 0 < room
         → ((i : ℕ) → slice_index_or taken.now i None ≡ None) → IfOk result (λ order. IsSome order) }
 {
     let plan = plan_of(alloc, room, order)?;

@@ -5,9 +5,10 @@ ghost use Rattle.calls_core.specs.Lists.{Each};
 ghost use Rattle.calls_buffers.specs.declared.accesses.Access.{Access};
 ghost use Rattle.calls_buffers.specs.Counts.{item, all_puts};
 ghost use Rattle.calls_buffers.specs.kept.Accesses.{ByItem, later};
-ghost use Rattle.calls_buffers.specs.kept.Pairs.{told, untold, window_list, fits, IsUnfit};
+ghost use Rattle.calls_buffers.specs.kept.Pairs.{with_take, without_take, window_list, fits, IsUnfit};
 ghost use Rattle.calls_buffers.specs.kept.Pairs.{IsUnproduced, ArePaired, AreNotPaired};
-ghost use Rattle.calls_buffers.specs.kept.Windows.{AreWindows, AreWithin, in_by, out_from};
+ghost use Rattle.calls_buffers.specs.kept.Windows.{AreWindows, in_by, out_from};
+ghost use Rattle.calls_buffers.specs.Accesses.{AreWithin};
 
 use crate::accesses::{Access, Place, find, puts, repeated, takes};
 use crate::recorded::Recorded;
@@ -60,8 +61,8 @@ pub(crate) struct Windows {
 }
 
 /// Returns the window of an item with this produce and this consume.
-fn told(put: &Access, take: &Access) -> Window
-    ensures { result ≡ told put.now take.now }
+pub(crate) fn with_take(put: &Access, take: &Access) -> Window
+    ensures { result ≡ with_take put.now take.now }
 {
     Window {
         item: put.item,
@@ -75,8 +76,8 @@ fn told(put: &Access, take: &Access) -> Window
 }
 
 /// Returns the window of an item with this produce and no consume.
-fn untold(put: &Access, end: usize) -> Window
-    ensures { result ≡ untold end put.now }
+pub(crate) fn without_take(put: &Access, end: usize) -> Window
+    ensures { result ≡ without_take end put.now }
 {
     Window {
         item: put.item,
@@ -114,11 +115,11 @@ fn pair(alloc: Global, puts: &[Access], takes: &[Access], end: usize) -> Result<
         match takes.get(next) {
             Some(take) if take.item == put.item => {
                 next = next.saturating_add(1);
-                list.push(told(put, take))?;
+                list.push(with_take(put, take))?;
             }
             _ => {
                 if put.last < end {
-                    list.push(untold(put, end))?;
+                    list.push(without_take(put, end))?;
                 }
             }
         }
@@ -146,10 +147,10 @@ fn paired(
     let mut list = Vec::new(alloc);
     for put in puts {
         match find(takes, put.item) {
-            Some(take) => list.push(told(put, &take))?,
+            Some(take) => list.push(with_take(put, &take))?,
             None => {
                 if put.last < end {
-                    list.push(untold(put, end))?;
+                    list.push(without_take(put, end))?;
                 }
             }
         }

@@ -11,10 +11,6 @@ use Rattle.calls_core.specs.declared.history.Reply.{Reply}
 use Rattle.calls_core.specs.declared.history.Reply.TheVariants.{Number}
 use Rattle.calls_core.specs.declared.history.Call.{Call}
 use Rattle.calls_schedule.specs.declared.job.Bound.{Bound}
-use Rattle.calls_buffers.specs.declared.fault.Fault.{Fault}
-use Rattle.calls_buffers.specs.declared.fault.Fault.TheVariants.{Unproduced, Overfull, Crowded}
-use Rattle.calls_buffers.specs.declared.fault.Fault.TheVariants.{Overtaken, Passed, Squeezed}
-use Rattle.calls_buffers.specs.declared.fault.Fault.TheVariants.{Overdue}
 use Rattle.calls_text.specs.Recordings.{first_group}
 use Rattle.calls_report.specs.Sites.{SiteModel, line_of}
 
@@ -132,13 +128,3 @@ chain_text s b bs = bound_text s b ++ further_bounds s bs
 abbrev pub overdue_text : SiteModel → List Bound → List ℕ
 overdue_text s [] = []
 overdue_text s (b ∷ bs) = chain_text s b bs
-
--- what the calls of a buffer show
-abbrev pub item_text : SiteModel → Fault → List ℕ
-item_text s (Unproduced c taken put) = unproduced_text s c taken put
-item_text s (Overfull c put taken) = overfull_text s c put taken
-item_text s (Crowded c left pending) = crowded_text s c left pending
-item_text s (Overtaken p c before later all) = overtaken_text s p c before later all
-item_text s (Passed p c left pending) = passed_text s p c left pending
-item_text s (Squeezed q p left pending) = squeezed_text s q p left pending
-item_text s (Overdue bounds) = overdue_text s bounds.items

@@ -5,6 +5,8 @@ pub mod Counting
 pub mod Certificates
 pub mod Sites
 pub mod Items
+pub mod Outruns
+pub mod Faults
 pub mod Refusals
 pub mod Notes
 pub mod Remarks

@@ -15,7 +15,7 @@ use Rattle.calls_text.specs.Recordings.{first_sequencer, first_group}
 use Rattle.calls_text.specs.Spelling.{event_word, sequencer_word, group_word, store_word, numbers_of_value}
 use Rattle.calls_text.specs.Spelling.{numbers_after_spaces}
 use Rattle.calls_report.specs.Sites.{SiteModel, line_of}
-use Rattle.calls_report.specs.Items.{item_text}
+use Rattle.calls_report.specs.Faults.{item_text}
 use Rattle.calls_report.specs.declared.certificate.Certificate.{Certificate}
 use Rattle.calls_report.specs.declared.certificate.Certificate.TheVariants as shows
 

@@ -4,10 +4,12 @@ ghost use Rattle.ec_text.specs.Puts.{Puts};
 ghost use Rattle.calls_report.specs.Items.{room_of, room_in, some, by_line, put_item, taken_item};
 ghost use Rattle.calls_report.specs.Items.{room_text, pending_text, unproduced_text};
 ghost use Rattle.calls_report.specs.Items.{overfull_text, crowded_text, counts_text, of_all};
-ghost use Rattle.calls_report.specs.Items.{overtaken_text, passed_text, squeezed_text, item_text};
+ghost use Rattle.calls_report.specs.Items.{overtaken_text, passed_text, squeezed_text};
+ghost use Rattle.calls_report.specs.Faults.{item_text};
 ghost use Rattle.calls_report.specs.Items.{most_text, at_most, bound_text, next_bound};
 ghost use Rattle.calls_report.specs.Items.{further_bounds, chain_text, overdue_text};
 
+use crate::outruns::put_outrun;
 use crate::refusal::Site;
 use calls_buffers::Fault;
 use calls_core::{Call, Op, Reply};
@@ -48,7 +50,7 @@ fn put_consumed<W: Write>(out: &mut Output<'_, W>, call: &Call)
 }
 
 /// Puts a number, and a noun in the singular or the plural.
-fn put_some<W: Write>(out: &mut Output<'_, W>, n: usize, noun: &[u8])
+pub(crate) fn put_some<W: Write>(out: &mut Output<'_, W>, n: usize, noun: &[u8])
     ensures { Puts out.old out.new (some n noun.now) }
 {
     out.put_number(n as u64);
@@ -60,7 +62,7 @@ fn put_some<W: Write>(out: &mut Output<'_, W>, n: usize, noun: &[u8])
 }
 
 /// Returns how many items the buffer has room for.
-fn room(site: &Site<'_>) -> usize
+pub(crate) fn room(site: &Site<'_>) -> usize
     ensures { result ≡ room_in site.now }
 {
     let heading = site.speaker.heading;
@@ -79,7 +81,7 @@ fn put_capacity<W: Write>(out: &mut Output<'_, W>, site: &Site<'_>)
 }
 
 /// Puts a line as the end of what is counted.
-fn put_by_line<W: Write>(out: &mut Output<'_, W>, site: &Site<'_>, position: usize)
+pub(crate) fn put_by_line<W: Write>(out: &mut Output<'_, W>, site: &Site<'_>, position: usize)
     ensures { Puts out.old out.new (by_line site.now position) }
 {
     out.put(b"by line ");
@@ -88,7 +90,7 @@ fn put_by_line<W: Write>(out: &mut Output<'_, W>, site: &Site<'_>, position: usi
 }
 
 /// Puts how much room there is, in words.
-fn put_room<W: Write>(out: &mut Output<'_, W>, site: &Site<'_>)
+pub(crate) fn put_room<W: Write>(out: &mut Output<'_, W>, site: &Site<'_>)
     ensures { Puts out.old out.new (room_text site.now) }
 {
     out.put(b"room for ");
@@ -368,5 +370,11 @@ pub(crate) fn put_items<W: Write>(out: &mut Output<'_, W>, site: &Site<'_>, faul
             pending,
         } => put_squeezed(out, site, full, put, *left, *pending),
         Fault::Overdue { bounds } => put_overdue(out, site, bounds),
+        Fault::Outrun {
+            flow,
+            steps,
+            turn,
+            clash,
+        } => put_outrun(out, site, *flow, steps, *turn, *clash),
     }
 }

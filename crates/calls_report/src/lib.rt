@@ -8,6 +8,7 @@ mod counting;
 mod items;
 mod notes;
 mod order;
+mod outruns;
 mod refusal;
 mod remarks;
 mod status;

@@ -46,6 +46,7 @@ fn item_calls(alloc: Global, fault: &calls_buffers::Fault) -> Result<Vec<Call>, 
         calls_buffers::Fault::Passed { put, consume, .. } => list_calls(alloc, &[*put, *consume]),
         calls_buffers::Fault::Squeezed { full, put, .. } => list_calls(alloc, &[*full, *put]),
         calls_buffers::Fault::Overdue { .. } => Ok(Vec::new(alloc)),
+        calls_buffers::Fault::Outrun { .. } => Ok(Vec::new(alloc)),
     }
 }
 

@@ -1,6 +1,8 @@
 //! Writes the result for a history.
+use calls_buffers::Flow;
 use calls_core::{Call, Op, Placed, Reply};
 use calls_schedule::Bound;
+use calls_turns::{Clash, Reason, Step};
 use calls_verdict::{Cause, Fault, Misuse, Refusal, Undecided, Verdict};
 use std::io;
 use std::io::Write;
@@ -110,6 +112,42 @@ fn write_bounds<W: Write>(out: &mut W, bounds: &[Bound]) -> io::Result<()> {
     writeln!(out)
 }
 
+/// Writes how many items are put in or taken at least.
+fn write_steps<W: Write>(
+    out: &mut W,
+    flow: Flow,
+    steps: &[Step],
+    turn: usize,
+    clash: Clash,
+) -> io::Result<()> {
+    match flow {
+        Flow::In => write!(out, "outrun in")?,
+        Flow::Out => write!(out, "outrun out")?,
+    }
+    for step in steps {
+        write!(out, " {}:{}", step.at, step.count)?;
+        if let Reason::Takers {
+            item,
+            after,
+            takers,
+        } = step.reason
+        {
+            write!(out, "/{takers}*{item}")?;
+            if let Some(after) = after {
+                write!(out, "@{after}")?;
+            }
+        }
+    }
+    match clash {
+        Clash::Closed => writeln!(out, " closed {turn}"),
+        Clash::Few {
+            item,
+            turns,
+            takers,
+        } => writeln!(out, " few {turn} {item} {turns} {takers}"),
+    }
+}
+
 /// Writes a fault of a buffer.
 fn write_items<W: Write>(out: &mut W, fault: &calls_buffers::Fault) -> io::Result<()> {
     use calls_buffers::Fault;
@@ -122,6 +160,12 @@ fn write_items<W: Write>(out: &mut W, fault: &calls_buffers::Fault) -> io::Resul
         Fault::Passed { put, consume, .. } => write_named(out, "passed", &[*put, *consume]),
         Fault::Squeezed { full, put, .. } => write_named(out, "squeezed", &[*full, *put]),
         Fault::Overdue { bounds } => write_bounds(out, bounds.as_slice()),
+        Fault::Outrun {
+            flow,
+            steps,
+            turn,
+            clash,
+        } => write_steps(out, *flow, steps.as_slice(), *turn, *clash),
     }
 }
 

@@ -35,7 +35,7 @@ pub enum Cause {
     Values(calls_cells::Undecided),
     /// Of a buffer: its events before this position have a linearization. With the event at this
     /// position neither one nor a fault was found, which the contract does not say. An item was put
-    /// in twice, or a pending consume may have taken one.
+    /// in twice, or a pending consume may have taken one, or there is no room.
     Unfound(usize),
 }
 

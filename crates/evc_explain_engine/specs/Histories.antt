@@ -1,10 +1,11 @@
 -- The explanation of the histories of calls of a text.
 use Rattle.std.specs.Prelude.{◌≡◌, ◌⊎◌, ℕ, ◌+◌, ◌-◌, ◌^◌, nat_lt, min, List, [], ◌∷◌, ◌++◌, length}
-use Rattle.std.specs.Prelude.{take, codes, Ok, Option, Some, None, if◌then◌else◌}
+use Rattle.std.specs.Prelude.{take, map, codes, Ok, Option, Some, None, if◌then◌else◌}
 use Rattle.std.specs.List.{flat_map}
 use Rattle.calls_core.specs.declared.history.Call.{Call}
 use Rattle.calls_core.specs.declared.history.Placed.{Placed}
 use Rattle.calls_schedule.specs.declared.job.Bound.{Bound}
+use Rattle.calls_turns.specs.declared.turn.Step.{Step}
 use Rattle.calls_buffers.specs.declared.fault.Fault as items
 use Rattle.calls_buffers.specs.declared.fault.Fault.TheVariants as item
 use Rattle.calls_cells.specs.declared.outcome.Fault as cells
@@ -55,29 +56,30 @@ if_before at position = if nat_lt position at then position ∷ [] else []
 abbrev pub ends_before : ℕ → Call → List ℕ
 ends_before at c = if_before at c.first ++ if_before at c.last
 
--- the bounds that a fault names
-abbrev pub item_bounds : items.Fault → List Bound
-item_bounds (item.Unproduced c taken put) = []
-item_bounds (item.Overfull c put taken) = []
-item_bounds (item.Crowded c left pending) = []
-item_bounds (item.Overtaken p c before later all) = []
-item_bounds (item.Passed p c left pending) = []
-item_bounds (item.Squeezed q p left pending) = []
-item_bounds (item.Overdue bounds) = bounds.items
+-- the positions of the counts that a fault names
+abbrev pub item_marks : items.Fault → List ℕ
+item_marks (item.Unproduced c taken put) = []
+item_marks (item.Overfull c put taken) = []
+item_marks (item.Crowded c left pending) = []
+item_marks (item.Overtaken p c before later all) = []
+item_marks (item.Passed p c left pending) = []
+item_marks (item.Squeezed q p left pending) = []
+item_marks (item.Overdue bounds) = map (λ (b : Bound). b.at) bounds.items
+item_marks (item.Outrun flow steps turn clash) = map (λ (s : Step). s.at) steps.items
 
-abbrev pub bounds_of : Fault → List Bound
-bounds_of (faults.Count f) = []
-bounds_of (faults.Ticket f) = []
-bounds_of (faults.Units f) = []
-bounds_of (faults.Value f) = []
-bounds_of (faults.Items f) = item_bounds f
+abbrev pub marks_of : Fault → List ℕ
+marks_of (faults.Count f) = []
+marks_of (faults.Ticket f) = []
+marks_of (faults.Units f) = []
+marks_of (faults.Value f) = []
+marks_of (faults.Items f) = item_marks f
 
--- the positions of the events of the calls that a refusal names, and of its bounds, before the
+-- the positions of the events of the calls that a refusal names, and of its counts, before the
 -- first faulty event
 abbrev pub named_positions : Refusal → List ℕ
 named_positions x =
     flat_map (ends_before x.at) (faulty_calls x.fault)
-    ++ flat_map (λ (b : Bound). if_before x.at b.at) (bounds_of x.fault)
+    ++ flat_map (if_before x.at) (marks_of x.fault)
 
 -- the first 20 of some positions
 abbrev pub few : List ℕ → List ℕ

@@ -12,8 +12,7 @@ ghost use Rattle.evc_explain_engine.specs.Histories.{seen_lines, count_reason, t
 ghost use Rattle.evc_explain_engine.specs.Histories.{distinct_reason, reason_for, ExplainsRefused};
 ghost use Rattle.evc_explain_engine.specs.Histories.{ExplainsUndecided, Judges, ExplainsHistories, IsUnread};
 ghost use Rattle.evc_explain_engine.specs.Histories.{open_position, first_put};
-ghost use Rattle.evc_explain_engine.specs.Histories.{item_bounds, bounds_of};
-ghost use Rattle.calls_schedule.specs.declared.job.Bound.{Bound};
+ghost use Rattle.evc_explain_engine.specs.Histories.{item_marks, marks_of};
 
 use crate::explanation::{Explanation, explain_finding, whole};
 use crate::good::ordered_bytes;
@@ -67,55 +66,60 @@ fn ends_of(alloc: Global, at: usize, calls: &[Call]) -> Result<Vec<usize>, Alloc
     Ok(positions)
 }
 
-/// Returns those of the positions of bounds that are before `at`.
-fn bounds_before(alloc: Global, at: usize, bounds: &[Bound]) -> Result<Vec<usize>, AllocError>
-    ensures { IfOk result (λ ps. ps.items ≡ flat_map (λ (b : Bound). if_before at b.at)
-        bounds.now) }
+/// Returns those of some positions that are before `at`.
+fn marks_before(alloc: Global, at: usize, marks: &[usize]) -> Result<Vec<usize>, AllocError>
+    ensures { IfOk result (λ ps. ps.items ≡ flat_map (if_before at) marks.now) }
 {
     let mut positions = Vec::new(alloc);
-    for bound in bounds {
-        add_if_before(&mut positions, at, bound.at)?;
+    for mark in marks {
+        add_if_before(&mut positions, at, *mark)?;
     }
     Ok(positions)
 }
 
-/// Returns the bounds that a fault of a buffer names.
-fn item_bounds(fault: &calls_buffers::Fault) -> &[Bound]
-    ensures { result.now ≡ item_bounds fault.now }
+/// Returns the positions of the counts that a fault of a buffer names.
+fn item_marks(alloc: Global, fault: &calls_buffers::Fault) -> Result<Vec<usize>, AllocError>
+    ensures { IfOk result (λ ps. ps.items ≡ item_marks fault.now) }
 {
     match fault {
-        calls_buffers::Fault::Unproduced { .. } => &[],
-        calls_buffers::Fault::Overfull { .. } => &[],
-        calls_buffers::Fault::Crowded { .. } => &[],
-        calls_buffers::Fault::Overtaken { .. } => &[],
-        calls_buffers::Fault::Passed { .. } => &[],
-        calls_buffers::Fault::Squeezed { .. } => &[],
-        calls_buffers::Fault::Overdue { bounds } => bounds,
+        calls_buffers::Fault::Unproduced { .. } => Ok(Vec::new(alloc)),
+        calls_buffers::Fault::Overfull { .. } => Ok(Vec::new(alloc)),
+        calls_buffers::Fault::Crowded { .. } => Ok(Vec::new(alloc)),
+        calls_buffers::Fault::Overtaken { .. } => Ok(Vec::new(alloc)),
+        calls_buffers::Fault::Passed { .. } => Ok(Vec::new(alloc)),
+        calls_buffers::Fault::Squeezed { .. } => Ok(Vec::new(alloc)),
+        calls_buffers::Fault::Overdue { bounds } => {
+            bounds.iter().map(|bound| bound.at).collect(alloc)
+        }
+        calls_buffers::Fault::Outrun { steps, .. } => {
+            steps.iter().map(|step| step.at).collect(alloc)
+        }
     }
 }
 
-/// Returns the bounds that a fault names.
-fn bounds_of(fault: &Fault) -> &[Bound]
-    ensures { result.now ≡ bounds_of fault.now }
+/// Returns the positions of the counts that a fault names.
+fn marks_of(alloc: Global, fault: &Fault) -> Result<Vec<usize>, AllocError>
+    ensures { IfOk result (λ ps. ps.items ≡ marks_of fault.now) }
 {
     match fault {
-        Fault::Count(_) => &[],
-        Fault::Ticket(_) => &[],
-        Fault::Units(_) => &[],
-        Fault::Value(_) => &[],
-        Fault::Items(fault) => item_bounds(fault),
+        Fault::Count(_) => Ok(Vec::new(alloc)),
+        Fault::Ticket(_) => Ok(Vec::new(alloc)),
+        Fault::Units(_) => Ok(Vec::new(alloc)),
+        Fault::Value(_) => Ok(Vec::new(alloc)),
+        Fault::Items(fault) => item_marks(alloc, fault),
     }
 }
 
-/// Returns the positions of the events of the calls that a refusal names, and of its bounds, before
+/// Returns the positions of the events of the calls that a refusal names, and of its counts, before
 /// the first faulty event.
 fn named_positions(alloc: Global, refusal: &Refusal) -> Result<Vec<usize>, AllocError>
     ensures { IfOk result (λ ps. ps.items ≡ named_positions refusal.now) }
 {
     let calls = faulty_calls(alloc, &refusal.fault)?;
     let mut positions = ends_of(alloc, refusal.at, calls.as_slice())?;
-    let bounds = bounds_before(alloc, refusal.at, bounds_of(&refusal.fault))?;
-    positions.extend_from_slice(bounds.as_slice())?;
+    let marks = marks_of(alloc, &refusal.fault)?;
+    let marks = marks_before(alloc, refusal.at, &marks)?;
+    positions.extend_from_slice(marks.as_slice())?;
     Ok(positions)
 }
 

@@ -24,6 +24,7 @@ from trying.calls.theorems import (
 from trying.calls.verdict import judge
 from trying.counting import Fault, need
 from trying.verdicts.chains import is_chain, is_decided, windows_of
+from trying.verdicts.turns import is_outrun, is_put_in_turn, is_taken_in_turn, turns_of
 
 
 def note_faults(history, verdict, note):
@@ -423,6 +424,40 @@ class Claim:
         asking = self.pending_takes(other.last)
         need(self.room() + asking <= inside, "there is room")
         self.counts(words, item=other.op[1], left=inside, pending=asking)
+
+    def step(self, text, flow, room):
+        """Returns a step, and checks what its words say of produces, room and its number twice."""
+        found = re.fullmatch(
+            r"by line (\d+), (\d+) (produce|consume)s?(?: of (\d+)(?: called after line (\d+))?)? had returned, so"
+            r"(?: with room for (\d+))? at least (\d+) items? had been (put in|taken)",
+            text,
+        )
+        line, calls, noun, item, after, free, number, moved = found.groups()
+        at, calls, number = int(line) - self.history.first_line, int(calls), int(number)
+        need(moved == {"in": "put in", "out": "taken"}[flow], "the steps count both ways")
+        if item is None:
+            right = ("consume", number, None) if flow == "in" else ("produce", number + room, str(room))
+            need((noun, calls, free) == right, "a step has other numbers")
+            return at, number, None
+        need(noun == {"in": "produce", "out": "consume"}[flow], "a step is of the other calls")
+        position = None if after is None else int(after) - self.history.first_line
+        return at, number, (calls, int(item), position)
+
+    def outrun(self, words):
+        """Checks the steps: each follows from those before it, and the last one needs an item for which it is too early."""
+        flow = "in" if " put in" in words["steps"] else "out"
+        room, (puts, takes, is_asked) = self.room(), accesses(self.calls)
+        is_known = is_taken_in_turn(puts, takes, is_asked) if flow == "out" else is_put_in_turn(puts, takes)
+        need(is_known, "the order of the items is not known")
+        steps = [self.step(text, flow, room) for text in words["steps"].split("; ")]
+        first, *others = map(int, re.findall("[0-9]+", words["clash"]))
+        if "no more than" in words["clash"]:
+            need(others == ([room] if flow == "in" else []), "there is other room")
+            turn, clash = (first + room if flow == "in" else first), None
+        else:
+            turn, clash = first - 1, (others[1], others[0], others[2])
+        turns, takers = turns_of(flow, puts, takes, room, self.at + 1)
+        need(is_outrun(turns, takers, steps, turn, clash, self.at + 1), "a step does not follow")
 
     def overdue(self, words):
         """Checks the bounds: each follows from those before it, and only the last one is of more items than there are."""

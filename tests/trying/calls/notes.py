@@ -29,6 +29,19 @@ BOUND = (
     f"of the first (?:1 item|(?!1 ){NUMBER} items), {NUMBER} had not been taken before line {NUMBER}"
     f"(?:, so at most {NUMBER} had)?"
 )
+COUNTED = "(?:1 {0}|(?!1 )" + NUMBER + " {0}s)"
+ITEMS, PRODUCES, CONSUMES = (COUNTED.format(noun) for noun in ("item", "produce", "consume"))
+ITS_CALLS = f"(?:{PRODUCES}|{CONSUMES})"
+STEP = (
+    f"by line {NUMBER}, (?:{PRODUCES} had returned, so with room for {NUMBER}|{CONSUMES} had returned, so"
+    f"|{ITS_CALLS} of {NUMBER}(?: called after line {NUMBER})? had returned, so)"
+    f" at least {ITEMS} had been (?:put in|taken)"
+)
+CLASH = (
+    f"(?:no more than {PRODUCES} had been called by then"
+    f"|no more than {CONSUMES} had been called by then, with room for {NUMBER}"
+    f"|of the first {ITEMS}, {NUMBER} were {NUMBER}, and only {ITS_CALLS} of it had been called by then)"
+)
 HELD = f"(?P<X>[^ ]+) returned (?P<value>{VALUE})"
 
 # The forms of notes on histories: the name of the form, and all after `line N: `. The notes on what is
@@ -67,13 +80,14 @@ NOTES = {
     "squeezed": f"{BY_LINE}{some('left', 'item')} had been put in that no consume called by line (?P<other>{NUMBER})"
     f" has returned, {ASKING}; and (?P<item>{NUMBER}), put in once, by then, was not taken by line (?P=one)",
     "overdue": f"(?P<bounds>{BOUND}(?:; {BOUND})*)",
+    "outrun": f"(?P<steps>{STEP}(?:; {STEP})*), but (?P<clash>{CLASH})",
     "unfound": f"(?P<B>[^ ]+) is not decided from line (?P<from>{NUMBER}) on",
     "undecided": f"(?P<X>[^ ]+) is not decided: (?P<value>{VALUE}) was (?P<put>put|written)"
     f" more than once, and the (?P<puts>puts|writes) of lines (?P<one>{NUMBER})"
     f" and (?P<other>{NUMBER}) overlap",
 }
 OPEN = "undecided", "unfound"
-OF_BUFFERS = "unproduced", "overfull", "crowded", "overtaken", "passed", "squeezed", "overdue"
+OF_BUFFERS = "unproduced", "overfull", "crowded", "overtaken", "passed", "squeezed", "overdue", "outrun"
 NOTE = re.compile(f"(?:line (?P<N>{NUMBER}): )?(?P<rest>.*)")
 
 

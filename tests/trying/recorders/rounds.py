@@ -74,8 +74,8 @@ FOUND = [
     ("ticket mixed counter 1000", 1, "REFUSED"),
     ("lock mixed counter 1000", 1, "REFUSED"),
     ("hasty queue counter 1000", 1, "REFUSED", r"had returned \d+, but only \d+ produces? called by then can have put"),
-    ("shared queue counter 1000", 1, "REFUSED", "had been put in|had returned done|was produced before|had not been taken"),
-    ("wide queue counter 1000", 1, "REFUSED", "(with|and) room for 2|had not been taken before line"),
+    ("shared queue counter 1000", 1, "REFUSED", "had been put in|had returned done|was produced before|had not been taken|had been taken"),
+    ("wide queue counter 1000", 1, "REFUSED", "(with|and) room for 2|had not been taken before line|items? had been (put in|taken)"),
 ]
 PANICKED = [("panics mixed counter 10", 6, "PANICKED", r"line \d+: w\d calls advance E has not returned")]
 BY_PROGRAM = [RIGHT[0], RIGHT[-1], FOUND[0], FOUND[1]]

@@ -1,8 +1,11 @@
 """What the certificate of a fault of a buffer says of its calls, by counting, and what an undecided one leaves open."""
 
+import re
+
 from trying.verdicts.brute import Calls, is_linearizable
 from trying.verdicts.chains import is_chain, is_decided, windows_of
 from trying.verdicts.histories import kept
+from trying.verdicts.turns import is_outrun, is_put_in_turn, is_taken_in_turn, turns_of
 
 
 def accesses(calls):
@@ -16,6 +19,25 @@ def shows_bounds(calls, room, words, end):
     """Whether these words, each POSITION:ITEMS/DUE, are bounds that leave the items no order."""
     bounds = [tuple(int(n) for n in word.replace("/", ":").split(":")) for word in words]
     return is_chain(windows_of(*accesses(calls)), room, bounds, end)
+
+
+def shows_steps(calls, room, words, end):
+    """Whether these words leave the items no order: in or out; steps, each POSITION:NUMBER, with /TAKERS*ITEM and
+    @POSITION; and a clash."""
+    flow, *rest = words
+    puts, takes, is_asked = accesses(calls)
+    if not (is_taken_in_turn(puts, takes, is_asked) if flow == "out" else is_put_in_turn(puts, takes)):
+        return False
+    split = rest.index("few" if "few" in rest else "closed")
+    steps = [step_of(word) for word in rest[:split]]
+    turn, *clash = map(int, rest[split + 1 :])
+    return is_outrun(*turns_of(flow, puts, takes, room, end), steps, turn, clash or None, end)
+
+
+def step_of(word):
+    found = re.fullmatch(r"(\d+):(\d+)(?:/(\d+)\*(\d+)(?:@(\d+))?)?", word)
+    at, number, takers, item, after = (None if n is None else int(n) for n in found.groups())
+    return at, number, None if takers is None else (takers, item, after)
 
 
 def shows_of_buffer(calls, room, name, a, b):

@@ -1,7 +1,7 @@
 """Checks by counting what the certificate of a fault says of a history of calls."""
 
 from trying.verdicts.brute import Calls, is_linearizable
-from trying.verdicts.buffers import shows_bounds, shows_of_buffer
+from trying.verdicts.buffers import shows_bounds, shows_of_buffer, shows_steps
 from trying.verdicts.histories import kept
 
 
@@ -22,6 +22,8 @@ def certificate_faults(kinds, events, at, k, name, words):
     calls = [c for c in Calls(kinds, events[: at + 1]).calls if c[1] == k]
     if name == "overdue":
         return None if shows_bounds(calls, kinds[k][1], words, at + 1) else name
+    if name == "outrun":
+        return None if shows_steps(calls, kinds[k][1], words, at + 1) else name
     numbers = [int(word) for word in words if "-" not in word]
     named = []
     for word in words:

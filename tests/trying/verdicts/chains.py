@@ -1,5 +1,7 @@
 """Bounds on how many items of a buffer were taken, counted anew from its calls."""
 
+from trying.verdicts.turns import is_put_in_turn, is_taken_in_turn
+
 
 def windows_of(puts, takes, is_asked):
     """Returns for each item that is put in once where its produce and its consume begin and end, or None. `puts` are
@@ -40,8 +42,10 @@ def is_chain(windows, room, bounds, end):
 
 
 def is_decided(puts, takes, is_asked):
-    """Whether the calls are of the class that is always decided: each item is put in at most once, and no pending consume
-    may have taken one."""
+    """Whether the calls are of a class that is always decided: each item is put in at most once, and no pending consume
+    may have taken one; or the items are taken out, or put in, in a known order."""
+    if is_taken_in_turn(puts, takes, is_asked) or is_put_in_turn(puts, takes):
+        return True
     items = [item for item, first, last in puts]
     kept = [item for item, first, last in puts if last is not None and item not in [take[0] for take in takes]]
     return len(set(items)) == len(items) and not (is_asked and kept)

@@ -76,9 +76,9 @@ def small_histories(kind, count, letters):
             yield [kind], [(str(i), what, *ends[what](i)) for what, i in shape]
 
 
-def random_history(rng, kinds, count, workers):
+def random_history(rng, kinds, count, workers, alone=None):
     """Returns a history from a simulation of the objects: a call takes effect between its two events. In some histories
-    one reply is changed."""
+    one reply is changed. If `alone` is `produce` or `consume`, only the first worker makes such calls, and no other ones."""
     states = [first_state(kind) for kind in kinds]
     busy, events, changed = {}, [], rng.random() < 0.5
     begun = 0
@@ -87,7 +87,8 @@ def random_history(rng, kinds, count, workers):
         if worker not in busy:
             if begun < count:
                 k = rng.randrange(len(kinds))
-                op = rng.choice(ALPHABETS[tuple(kinds[k])])[0]
+                ops = [op for op, _ in ALPHABETS[tuple(kinds[k])]]
+                op = rng.choice([op for op in ops if alone is None or (op[0] == alone) == (worker == "0")])
                 busy[worker] = [k, op, None]
                 events.append((worker, "calls", k, op))
                 begun += 1
@@ -117,6 +118,28 @@ def random_histories(seed, count):
     for _ in range(count):
         kinds = [rng.choice(sorts) for _ in range(rng.choice([1, 1, 2, 3]))]
         yield random_history(rng, kinds, rng.randint(1, 8), rng.randint(2, 4))
+
+
+def swapped(rng, events):
+    """Returns events of a buffer in which two neighbouring consumes have each other's replies."""
+    items = [i for i, (_, what, *rest) in enumerate(events) if what == "returns" and isinstance(rest[0], int)]
+    if len(items) > 1:
+        i = rng.randrange(len(items) - 1)
+        one, other = items[i : i + 2]
+        first, second = events[one][2], events[other][2]
+        events[one], events[other] = (*events[one][:2], second), (*events[other][:2], first)
+    return events
+
+
+def histories_in_turn(seed, count):
+    """Yields histories of a buffer with one producer or one consumer, whose items come again. In half of them two replies
+    are swapped."""
+    rng = random.Random(seed)
+    for _ in range(count):
+        kind = rng.choice([["buffer", 1], ["buffer", 2]])
+        alone = rng.choice(["produce", "consume"])
+        kinds, events = random_history(rng, [kind], rng.randint(4, 10), rng.randint(2, 4), alone)
+        yield kinds, swapped(rng, events) if rng.random() < 0.5 else events
 
 
 def long_history(rng, kind, count, workers):

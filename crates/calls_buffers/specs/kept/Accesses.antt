@@ -1,37 +1,11 @@
 -- The produces and the consumes of a history, by their items.
-use Rattle.std.specs.Prelude.{ℕ, ◌+◌, ◌<◌, ◌≤◌, ◌==◌, nat_le, Option, Some, None}
-use Rattle.std.specs.Prelude.{List, [], ◌∷◌, ◌++◌, ◌-◌, length, slice_index_or, if◌then◌else◌}
+use Rattle.std.specs.Prelude.{ℕ, ◌<◌, ◌≤◌, ◌==◌, nat_le, Option, Some, None}
+use Rattle.std.specs.Prelude.{List, [], ◌∷◌, ◌-◌, length, slice_index_or, if◌then◌else◌}
 use Rattle.std.specs.List.Sorted.{IsNonDecreasingBy}
-use Rattle.calls_core.specs.declared.history.Op.{Op}
-use Rattle.calls_core.specs.declared.history.Reply.{Reply}
-use Rattle.calls_core.specs.declared.history.PendingCall.{PendingCall}
-use Rattle.calls_core.specs.declared.history.Call.{Call}
 use Rattle.calls_buffers.specs.declared.accesses.Place.{Place}
-use Rattle.calls_buffers.specs.declared.accesses.Place.TheVariants.{Completed, Pending}
 use Rattle.calls_buffers.specs.declared.accesses.Access.{Access}
 use Rattle.calls_core.specs.Lists.{EachPair}
-use Rattle.calls_buffers.specs.kept.Items.{produced_item}
-
--- the access by the completed call at index i, if it has an item
-abbrev pub access_of : ℕ → Call → Option ℕ → List Access
-access_of i c None = []
-access_of i c (Some v) =
-    record { item = v; place = Completed i; first = c.first; last = c.last } ∷ []
-
--- those by calls, of which the first one has index i
-abbrev pub accesses : (Op → Reply → Option ℕ) → ℕ → List Call → List Access
-accesses f i [] = []
-accesses f i (c ∷ cs) = access_of i c (f c.op c.reply) ++ accesses f (i + 1) cs
-
--- the access by the pending call at index i, if it has an item, as if it returned at `end`
-abbrev pub asked_of : ℕ → ℕ → PendingCall → Option ℕ → List Access
-asked_of end i o None = []
-asked_of end i o (Some v) =
-    record { item = v; place = Pending i; first = o.first; last = end } ∷ []
-
-abbrev pub asked : ℕ → ℕ → List PendingCall → List Access
-asked end i [] = []
-asked end i (o ∷ os) = asked_of end i o (produced_item o.op) ++ asked end (i + 1) os
+use Rattle.calls_buffers.specs.Accesses.{no_access}
 
 -- they are sorted by their items
 abbrev pub ByItem : List Access → Type 0
@@ -53,9 +27,6 @@ pub record IsRepeated (list : List Access) (i : ℕ) : Type 0 where
   pub no_more : (d : Access) → (slice_index_or list i d).item ≤ (slice_index_or list (i - 1) d).item
 
 -- the place of the later one of two neighbours
-abbrev pub no_access : Access
-no_access = record { item = 0; place = Completed 0; first = 0; last = 0 }
-
 abbrev pub later : List Access → ℕ → Place
 later list i =
     if nat_le (slice_index_or list (i - 1) no_access).last (slice_index_or list i no_access).last

@@ -15,8 +15,8 @@ use Rattle.calls_buffers.specs.Jobs.{IsConsumeOf}
 use Rattle.calls_buffers.specs.kept.Accesses.{find_access, Ascend, IsRepeated, later}
 
 -- the window of an item with this produce and this consume
-abbrev pub told : Access → Access → Window
-told p t = record {
+abbrev pub with_take : Access → Access → Window
+with_take p t = record {
   item = p.item;
   put = p.place;
   put_first = p.first;
@@ -27,8 +27,8 @@ told p t = record {
 }
 
 -- and with no consume
-abbrev pub untold : ℕ → Access → Window
-untold end p = record {
+abbrev pub without_take : ℕ → Access → Window
+without_take end p = record {
   item = p.item;
   put = p.place;
   put_first = p.first;
@@ -40,8 +40,8 @@ untold end p = record {
 
 -- a pending produce whose item nobody returned is left out
 abbrev pub window_of : ℕ → Access → Option Access → List Window
-window_of end p (Some t) = told p t ∷ []
-window_of end p None = if nat_lt p.last end then untold end p ∷ [] else []
+window_of end p (Some t) = with_take p t ∷ []
+window_of end p None = if nat_lt p.last end then without_take end p ∷ [] else []
 
 abbrev pub window_list : ℕ → List Access → List Access → List Window
 window_list end takes [] = []

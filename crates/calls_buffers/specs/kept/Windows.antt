@@ -95,10 +95,3 @@ pub record AreRanked (n : ℕ) (ws order : List Window) : Type 0 where
   pub all : IsPermutation ws order
   pub pairs : EachPair MayPrecede order
   pub room : HaveRoom n order
-
--- CALLS
-
--- the calls were invoked before they returned, and all that before `end`
-pub record AreWithin (end : ℕ) (done : List Call) (pending : List PendingCall) : Type 0 where
-  pub completed : Each (λ (c : Call). (c.first < c.last) × (c.last < end)) done
-  pub invoked : Each (λ (o : PendingCall). o.first < end) pending

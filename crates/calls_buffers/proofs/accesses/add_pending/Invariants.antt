@@ -1,5 +1,5 @@
 use Rattle.std.proofs.Common.{◌≡◌, ◌++◌, drop}
-use Rattle.calls_buffers.specs.kept.Accesses.{asked}
+use Rattle.calls_buffers.specs.Accesses.{asked}
 use Rattle.calls_buffers.proofs.accesses.add_pending.Given as goal
 
 abbrev pub invariant-loop-i : goal.invariant-loop-i

@@ -1,6 +1,6 @@
 use Rattle.std.proofs.Common.{◌≡◌, ◌++◌, drop}
-use Rattle.calls_buffers.specs.kept.Items.{put_item}
-use Rattle.calls_buffers.specs.kept.Accesses.{accesses}
+use Rattle.calls_buffers.specs.Accesses.{put_item}
+use Rattle.calls_buffers.specs.Accesses.{accesses}
 use Rattle.calls_buffers.proofs.accesses.completed_puts.Given as goal
 
 abbrev pub invariant-loop-i : goal.invariant-loop-i

@@ -1,6 +1,6 @@
 use Rattle.std.proofs.Common.{◌≡◌, ◌++◌, drop}
-use Rattle.calls_buffers.specs.kept.Items.{taken_item}
-use Rattle.calls_buffers.specs.kept.Accesses.{accesses}
+use Rattle.calls_buffers.specs.Accesses.{taken_item}
+use Rattle.calls_buffers.specs.Accesses.{accesses}
 use Rattle.calls_buffers.proofs.accesses.completed_takes.Given as goal
 
 abbrev pub invariant-loop-i : goal.invariant-loop-i

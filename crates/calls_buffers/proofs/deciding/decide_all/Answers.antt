@@ -1,5 +1,4 @@
-use Rattle.std.proofs.Common.{arith, subst, sym, refl, reverse, List, None, IsSome, Some}
-use Rattle.calls_core.proofs.Lists.{each_weaker}
+use Rattle.std.proofs.Common.{arith, subst, sym, refl, reverse, List, IsSome}
 use Rattle.calls_schedule.specs.declared.job.Job.{Job}
 use Rattle.calls_buffers.specs.Jobs.{AreJobs}
 use Rattle.calls_schedule.specs.Schedules.{Refute}
@@ -11,7 +10,7 @@ use Rattle.calls_buffers.proofs.Answering.{all_sound}
 use Rattle.calls_buffers.proofs.deciding.decide_all.Goals as goal
 
 pub returns-in-Refuted : goal.returns-in-Refuted
-returns-in-Refuted c = λ calls are fits told.
+returns-in-Refuted c = λ calls are fits with_take.
     let done = c.args.calls.now.done.items in
     let pending = c.args.calls.now.pending.items in
     let end = c.args.end in
@@ -20,12 +19,12 @@ returns-in-Refuted c = λ calls are fits told.
     (omega (arith, fits)) (are_fit end done pending ws are)) in
     c.in_ok-fault-in-Refuted.ensures done pending end
     (subst (AreJobs done pending end) (sym c.deref.ensures.value)
-    (all_sound end done pending ws c.in-Refuted.jobs.items are told answer.0))
+    (all_sound end done pending ws c.in-Refuted.jobs.items are with_take answer.0))
     (subst (λ (js : List Job). Refute c.args.room js (reverse c.in-Refuted.bounds.items))
     (sym c.deref.ensures.value) answer.1)
 
 pub returns : goal.returns
-returns c = λ calls are fits told fits_too simple.
+returns c = λ calls are fits with_take fits_too simple.
     let done = c.args.calls.now.done.items in
     let pending = c.args.calls.now.pending.items in
     let end = c.args.end in

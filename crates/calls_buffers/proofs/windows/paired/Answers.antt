@@ -3,7 +3,7 @@ use Rattle.std.proofs.Common.{cond}
 use Rattle.std.proofs.lemmas.Bool.{lt-ltb, le-ltb}
 use Rattle.calls_buffers.specs.declared.accesses.Place.TheVariants.{Completed}
 use Rattle.calls_buffers.specs.declared.accesses.Access.{Access}
-use Rattle.calls_buffers.specs.kept.Pairs.{told, untold, window_of}
+use Rattle.calls_buffers.specs.kept.Pairs.{with_take, without_take, window_of}
 use Rattle.calls_buffers.proofs.Pairing.{windows_step}
 use Rattle.calls_buffers.proofs.windows.paired.Goals as goal
 use Rattle.calls_buffers.proofs.windows.paired.Goals.{in-Some+in_ok-push-in-Some, in-None+else-put-end}
@@ -18,19 +18,19 @@ loop-put-preserved c = λ up.
     let put = get_or c.args.puts.now l.put-index d in
     elim c.match-find.branch [
       | in-Some+in_ok-push-in-Some w ↦ windows_step end c.args.takes.now c.args.puts.now l.put-index
-          d base _ (told put w.in-Some.take ∷ []) _ c.loop-put-test.true
+          d base _ (with_take put w.in-Some.take ∷ []) _ c.loop-put-test.true
           (ap (window_of end put) (sym w.in-Some.is ∙ c.find.ensures up))
           (ap (λ v. v.items) w.list-is ∙ w.in_ok-push-in-Some.ensures.items
-          ∙ ap (λ x. base ++ x ∷ []) w.told.ensures) (l.invariant up)
+          ∙ ap (λ x. base ++ x ∷ []) w.with_take.ensures) (l.invariant up)
       | in-None+then-put-end+in_ok-push-in-None w ↦ windows_step end c.args.takes.now
-          c.args.puts.now l.put-index d base _ (untold end put ∷ []) _ c.loop-put-test.true
-          (ap (λ b. cond b (untold end put ∷ []) []) (sym (lt-ltb put.last end w.if-put-end.true))
+          c.args.puts.now l.put-index d base _ (without_take end put ∷ []) _ c.loop-put-test.true
+          (ap (λ b. cond b (without_take end put ∷ []) []) (sym (lt-ltb put.last end w.if-put-end.true))
           ∙ ap (window_of end put) (sym w.in-None.is ∙ c.find.ensures up))
           (ap (λ v. v.items) w.list-is ∙ w.in_ok-push-in-None.ensures.items
-          ∙ ap (λ x. base ++ x ∷ []) w.untold.ensures) (l.invariant up)
+          ∙ ap (λ x. base ++ x ∷ []) w.without_take.ensures) (l.invariant up)
       | in-None+else-put-end w ↦ windows_step end c.args.takes.now c.args.puts.now l.put-index d
           base _ [] _ c.loop-put-test.true
-          (ap (λ b. cond b (untold end put ∷ []) []) (sym (le-ltb put.last end w.if-put-end.false))
+          (ap (λ b. cond b (without_take end put ∷ []) []) (sym (le-ltb put.last end w.if-put-end.false))
           ∙ ap (window_of end put) (sym w.in-None.is ∙ c.find.ensures up))
           (ap (λ v. v.items) w.list-is ∙ sym (append-nil base)) (l.invariant up)
     ]

@@ -3,8 +3,9 @@ use Rattle.std.specs.List.Sorted.{IsPermutation}
 use Rattle.calls_core.specs.declared.history.PendingCall.{PendingCall}
 use Rattle.calls_core.specs.declared.history.Call.{Call}
 use Rattle.calls_buffers.specs.declared.accesses.Access.{Access}
-use Rattle.calls_buffers.specs.kept.Items.{put_item, taken_item}
-use Rattle.calls_buffers.specs.kept.Accesses.{accesses, asked, ByItem}
+use Rattle.calls_buffers.specs.Accesses.{put_item, taken_item}
+use Rattle.calls_buffers.specs.kept.Accesses.{ByItem}
+use Rattle.calls_buffers.specs.Accesses.{accesses, asked}
 use Rattle.calls_buffers.specs.kept.Pairs.{ArePaired, AreNotPaired}
 use Rattle.calls_buffers.proofs.Unproduced.{windows_sound, windows_exact}
 use Rattle.calls_buffers.proofs.windows.windows_of.Goals as goal

@@ -7,7 +7,7 @@ use Rattle.calls_buffers.specs.kept.Jobs.{AreJobsFrom}
 use Rattle.calls_buffers.specs.kept.Ranks.{AreFit, IsRanking}
 use Rattle.calls_buffers.proofs.RanksOf.{are_fit}
 use Rattle.calls_buffers.proofs.Answering.{returned_fit, returned_sound}
-use Rattle.calls_buffers.proofs.deciding.decide_told.Goals as goal
+use Rattle.calls_buffers.proofs.deciding.decide_returned.Goals as goal
 
 pub returns-in-Refuted : goal.returns-in-Refuted
 returns-in-Refuted c = λ are fits hard.
@@ -15,7 +15,7 @@ returns-in-Refuted c = λ are fits hard.
     let pending = c.args.calls.now.pending.items in
     let end = c.args.end in
     let ws = c.args.windows.now in
-    let same = c.deref.ensures.value ∙ c.in_ok-told.ensures in
+    let same = c.deref.ensures.value ∙ c.in_ok-returned_windows.ensures in
     let answer = subst (IsRanking c.args.room c.deref.result.now) c.in-Refuted.is
     (c.in_ok-jobs.ensures (omega (arith, fits)) (subst (AreFit end) (sym same)
     (returned_fit ws end (are_fit end done pending ws are)))) in

@@ -1,0 +1,84 @@
+-- The items of a history as turns. If no two produces overlap, it is known in which order the items
+-- are taken out: each turn takes out the next one. If no two consumes overlap, it is known in which
+-- order they were put in: each turn puts in the next one.
+use Rattle.std.specs.Prelude.{◌≡◌, ℕ, ◌+◌, ◌-◌, ◌<◌, ◌≤◌, nat_le, List, [], ◌∷◌, ◌++◌, drop, count_by}
+use Rattle.std.specs.Prelude.{slice_index_or, if◌then◌else◌}
+use Rattle.std.specs.List.Sorted.{IsPermutation}
+use Rattle.calls_core.specs.declared.history.PendingCall.{PendingCall}
+use Rattle.calls_core.specs.declared.history.Call.{Call}
+use Rattle.calls_core.specs.Lists.{EachPair}
+use Rattle.calls_turns.specs.declared.turn.Turn.{Turn}
+use Rattle.calls_turns.specs.declared.turn.Taker.{Taker}
+use Rattle.calls_buffers.specs.declared.accesses.Access.{Access}
+use Rattle.calls_buffers.specs.declared.fault.Flow.{Flow}
+use Rattle.calls_buffers.specs.declared.fault.Flow.TheVariants.{In, Out}
+use Rattle.calls_buffers.specs.Counts.{any_item, is_take, is_consume, all_puts}
+use Rattle.calls_buffers.specs.Accesses.{put_item, taken_item}
+use Rattle.calls_buffers.specs.Accesses.{accesses, asked, no_access}
+
+-- the produces that may put an item in. A pending one returns at `end`
+abbrev pub puts_of : ℕ → List Call → List PendingCall → List Access
+puts_of end done pending = accesses put_item 0 done ++ asked end 0 pending
+
+-- the consumes that returned an item
+abbrev pub takes_of : List Call → List Access
+takes_of done = accesses taken_item 0 done
+
+-- one after another
+abbrev pub AreApart : List Access → Type 0
+AreApart list = EachPair (λ (a b : Access). a.last < b.first) list
+
+-- each of them takes a turn of its item
+abbrev pub takers_of : ℕ → List Access → List Taker
+takers_of i [] = []
+takers_of i (a ∷ list) =
+    (record { call = i; item = a.item; from = a.first; by = a.last }) ∷ takers_of (i + 1) list
+
+-- ITEMS ARE TAKEN OUT: each after its produce was invoked, and before the produce returned that
+-- comes n after it
+
+abbrev pub last_or : ℕ → List Access → ℕ
+last_or end [] = end
+last_or end (a ∷ list) = a.last
+
+abbrev pub taking_turns : ℕ → ℕ → List Access → List Turn
+taking_turns n end [] = []
+taking_turns n end (p ∷ puts) =
+    (record { item = p.item; from = p.first; by = last_or end (drop n (p ∷ puts)) })
+    ∷ taking_turns n end puts
+
+pub record AreTaken (n end : ℕ) (done : List Call) (pending : List PendingCall)
+    (turns : List Turn) (takers : List Taker) : Type 0 where
+  pub puts : List Access
+  pub all : IsPermutation (puts_of end done pending) puts
+  pub apart : AreApart puts
+  pub turns_are : turns ≡ taking_turns n end puts
+  pub takers_are : takers ≡ takers_of 0 (takes_of done)
+  pub none : count_by (λ (o : PendingCall). is_consume o.op) pending ≡ 0
+
+-- ITEMS ARE PUT IN: each before its consume returned, and after the consume was invoked that comes
+-- n before it
+
+abbrev pub first_before : ℕ → List Access → ℕ → ℕ
+first_before n takes k =
+    if nat_le n k then (slice_index_or takes (k - n) no_access).first else 0
+
+abbrev pub putting_turns : ℕ → List Access → ℕ → List Access → List Turn
+putting_turns n all k [] = []
+putting_turns n all k (c ∷ takes) =
+    (record { item = c.item; from = first_before n all k; by = c.last })
+    ∷ putting_turns n all (k + 1) takes
+
+pub record ArePut (n end : ℕ) (done : List Call) (pending : List PendingCall)
+    (turns : List Turn) (takers : List Taker) : Type 0 where
+  pub takes : List Access
+  pub all : IsPermutation (takes_of done) takes
+  pub apart : AreApart takes
+  pub turns_are : turns ≡ putting_turns n takes 0 takes
+  pub takers_are : takers ≡ takers_of 0 (puts_of end done pending)
+  pub few : all_puts any_item done pending ≤ count_by (is_take any_item) done
+
+-- the turns of a history, and those who take them
+abbrev pub AreTurns : Flow → ℕ → ℕ → List Call → List PendingCall → List Turn → List Taker → Type 0
+AreTurns Out n end done pending turns takers = AreTaken n end done pending turns takers
+AreTurns In n end done pending turns takers = ArePut n end done pending turns takers

@@ -1,0 +1,108 @@
+-- Why items of a buffer can't be put in or taken out in the order that is known, in words.
+use Rattle.std.specs.Prelude.{ℕ, ◌+◌, ◌-◌, List, [], ◌∷◌, ◌++◌, codes, decimal, Option, Some, None}
+use Rattle.std.specs.Prelude.{min, ◌^◌}
+use Rattle.std.specs.List.{flat_map}
+use Rattle.calls_buffers.specs.declared.fault.Flow.{Flow}
+use Rattle.calls_buffers.specs.declared.fault.Flow.TheVariants.{In, Out}
+use Rattle.calls_turns.specs.declared.turn.Step.{Step}
+use Rattle.calls_turns.specs.declared.turn.Reason.{Reason}
+use Rattle.calls_turns.specs.declared.turn.Reason.TheVariants.{Due, Takers}
+use Rattle.calls_turns.specs.declared.turn.Clash.{Clash}
+use Rattle.calls_turns.specs.declared.turn.Clash.TheVariants.{Closed, Few}
+use Rattle.calls_report.specs.Sites.{SiteModel, line_of}
+use Rattle.calls_report.specs.Items.{some, by_line, room_in, room_text}
+
+-- n and m more, as far as that is a number
+abbrev pub plus : ℕ → ℕ → ℕ
+plus n m = min (n + m) (2 ^ 64 - 1)
+
+abbrev pub moved_text : Flow → List ℕ
+moved_text In = codes "put in"
+moved_text Out = codes "taken"
+
+-- so many items had been put in or taken
+abbrev pub least_text : Flow → ℕ → List ℕ
+least_text flow n =
+    codes "at least " ++ some n (codes "item") ++ codes " had been " ++ moved_text flow
+
+-- THE LAST OF THEM IS DUE: its consume had returned, or the produce that needs its room
+
+abbrev pub due_put_text : ℕ → List ℕ
+due_put_text n = some n (codes "consume") ++ codes " had returned, so " ++ least_text In n
+
+abbrev pub due_taken_text : SiteModel → ℕ → List ℕ
+due_taken_text s n =
+    some (plus n (room_in s)) (codes "produce") ++ codes " had returned, so with "
+    ++ room_text s ++ codes " " ++ least_text Out n
+
+abbrev pub due_text : SiteModel → Flow → ℕ → List ℕ
+due_text s In n = due_put_text n
+due_text s Out n = due_taken_text s n
+
+-- CALLS OF AN ITEM HAD RETURNED
+
+abbrev pub since_text : SiteModel → Option ℕ → List ℕ
+since_text s None = []
+since_text s (Some p) = codes " called after line " ++ line_of s p
+
+abbrev pub calls_text : Flow → ℕ → List ℕ
+calls_text In n = some n (codes "produce")
+calls_text Out n = some n (codes "consume")
+
+abbrev pub takers_text : SiteModel → Flow → ℕ → Option ℕ → ℕ → List ℕ
+takers_text s flow v after n =
+    calls_text flow n ++ codes " of " ++ decimal v ++ since_text s after
+    ++ codes " had returned, so "
+
+-- STEPS
+
+abbrev pub needed_text : SiteModel → Flow → ℕ → ℕ → Option ℕ → ℕ → List ℕ
+needed_text s flow n v after calls = takers_text s flow v after calls ++ least_text flow n
+
+abbrev pub reason_text : SiteModel → Flow → ℕ → Reason → List ℕ
+reason_text s flow n Due = due_text s flow n
+reason_text s flow n (Takers v after calls) = needed_text s flow n v after calls
+
+abbrev pub step_text : SiteModel → Flow → Step → List ℕ
+step_text s flow x = by_line s x.at ++ reason_text s flow x.count x.reason
+
+abbrev pub next_step : SiteModel → Flow → Step → List ℕ
+next_step s flow x = codes "; " ++ step_text s flow x
+
+abbrev pub further_steps : SiteModel → Flow → List Step → List ℕ
+further_steps s flow xs = flat_map (λ (x : Step). next_step s flow x) xs
+
+abbrev pub chain_text : SiteModel → Flow → Step → List Step → List ℕ
+chain_text s flow x xs = step_text s flow x ++ further_steps s flow xs
+
+abbrev pub steps_text : SiteModel → Flow → List Step → List ℕ
+steps_text s flow [] = []
+steps_text s flow (x ∷ xs) = chain_text s flow x xs
+
+-- BUT THAT CAN'T BE
+
+abbrev pub full_text : SiteModel → ℕ → List ℕ
+full_text s k =
+    codes ", but no more than " ++ some (k - room_in s) (codes "consume")
+    ++ codes " had been called by then, with " ++ room_text s
+
+abbrev pub empty_text : ℕ → List ℕ
+empty_text k =
+    codes ", but no more than " ++ some k (codes "produce") ++ codes " had been called by then"
+
+abbrev pub closed_text : SiteModel → Flow → ℕ → List ℕ
+closed_text s In k = full_text s k
+closed_text s Out k = empty_text k
+
+abbrev pub few_text : Flow → ℕ → ℕ → ℕ → ℕ → List ℕ
+few_text flow k v turns takers =
+    codes ", but of the first " ++ some (plus k 1) (codes "item") ++ codes ", " ++ decimal turns
+    ++ codes " were " ++ decimal v ++ codes ", and only " ++ calls_text flow takers
+    ++ codes " of it had been called by then"
+
+abbrev pub clash_text : SiteModel → Flow → ℕ → Clash → List ℕ
+clash_text s flow k Closed = closed_text s flow k
+clash_text s flow k (Few v turns takers) = few_text flow k v turns takers
+
+abbrev pub outrun_text : SiteModel → Flow → List Step → ℕ → Clash → List ℕ
+outrun_text s flow steps k clash = steps_text s flow steps ++ clash_text s flow k clash

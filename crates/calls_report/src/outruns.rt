@@ -1,0 +1,273 @@
+//! Why items can't be put in or taken out in the order that is known, in words.
+ghost use Rattle.ec_text.specs.Puts.{Puts};
+ghost use Rattle.calls_report.specs.Outruns.{moved_text, least_text, due_put_text, due_taken_text};
+ghost use Rattle.calls_report.specs.Outruns.{due_text, since_text, calls_text, takers_text};
+ghost use Rattle.calls_report.specs.Outruns.{needed_text, reason_text, step_text, next_step};
+ghost use Rattle.calls_report.specs.Outruns.{further_steps, chain_text, steps_text, full_text};
+ghost use Rattle.calls_report.specs.Outruns.{empty_text, closed_text, few_text, clash_text};
+ghost use Rattle.calls_report.specs.Outruns.{outrun_text};
+
+use crate::items::{put_by_line, put_room, put_some, room};
+use crate::refusal::Site;
+use calls_buffers::Flow;
+use calls_turns::{Clash, Reason, Step};
+use ec_text::Output;
+use std::io::Write;
+
+/// Puts what happened to items.
+fn put_moved<W: Write>(out: &mut Output<'_, W>, flow: Flow)
+    ensures { Puts out.old out.new (moved_text flow) }
+{
+    match flow {
+        Flow::In => out.put(b"put in"),
+        Flow::Out => out.put(b"taken"),
+    }
+}
+
+/// Puts how many items at least had been put in or taken.
+fn put_least<W: Write>(out: &mut Output<'_, W>, flow: Flow, n: usize)
+    ensures { Puts out.old out.new (least_text flow n) }
+{
+    out.put(b"at least ");
+    put_some(out, n, b"item");
+    out.put(b" had been ");
+    put_moved(out, flow);
+}
+
+/// Puts how many consumes had returned, each of which needs an item.
+fn put_due_put<W: Write>(out: &mut Output<'_, W>, n: usize)
+    ensures { Puts out.old out.new (due_put_text n) }
+{
+    put_some(out, n, b"consume");
+    out.put(b" had returned, so ");
+    put_least(out, Flow::In, n);
+}
+
+/// Puts how many produces had returned, for which there is not enough room.
+fn put_due_taken<W: Write>(out: &mut Output<'_, W>, site: &Site<'_>, n: usize)
+    ensures { Puts out.old out.new (due_taken_text site.now n) }
+{
+    put_some(out, n.saturating_add(room(site)), b"produce");
+    out.put(b" had returned, so with ");
+    put_room(out, site);
+    out.put(b" ");
+    put_least(out, Flow::Out, n);
+}
+
+/// Puts that so many items are due by a line.
+fn put_due<W: Write>(out: &mut Output<'_, W>, site: &Site<'_>, flow: Flow, n: usize)
+    ensures { Puts out.old out.new (due_text site.now flow n) }
+{
+    match flow {
+        Flow::In => put_due_put(out, n),
+        Flow::Out => put_due_taken(out, site, n),
+    }
+}
+
+/// Puts after which line calls were invoked.
+fn put_since<W: Write>(out: &mut Output<'_, W>, site: &Site<'_>, after: Option<usize>)
+    ensures { Puts out.old out.new (since_text site.now after) }
+{
+    if let Some(position) = after {
+        out.put(b" called after line ");
+        site.put_line(out, position);
+    }
+}
+
+/// Puts how many calls there are that put in or take out an item.
+fn put_calls<W: Write>(out: &mut Output<'_, W>, flow: Flow, n: usize)
+    ensures { Puts out.old out.new (calls_text flow n) }
+{
+    match flow {
+        Flow::In => put_some(out, n, b"produce"),
+        Flow::Out => put_some(out, n, b"consume"),
+    }
+}
+
+/// Puts that so many calls of an item had returned.
+fn put_takers<W: Write>(
+    out: &mut Output<'_, W>,
+    site: &Site<'_>,
+    flow: Flow,
+    item: usize,
+    after: Option<usize>,
+    takers: usize,
+)
+    ensures { Puts out.old out.new (takers_text site.now flow item after takers) }
+{
+    put_calls(out, flow, takers);
+    out.put(b" of ");
+    out.put_number(item as u64);
+    put_since(out, site, after);
+    out.put(b" had returned, so ");
+}
+
+/// Puts that so many calls of an item had returned, which need so many items.
+fn put_needed<W: Write>(
+    out: &mut Output<'_, W>,
+    site: &Site<'_>,
+    flow: Flow,
+    count: usize,
+    item: usize,
+    after: Option<usize>,
+    takers: usize,
+)
+    ensures { Puts out.old out.new (needed_text site.now flow count item after takers) }
+{
+    put_takers(out, site, flow, item, after, takers);
+    put_least(out, flow, count);
+}
+
+/// Puts why so many items had been put in or taken.
+fn put_reason<W: Write>(
+    out: &mut Output<'_, W>,
+    site: &Site<'_>,
+    flow: Flow,
+    count: usize,
+    reason: Reason,
+)
+    ensures { Puts out.old out.new (reason_text site.now flow count reason) }
+{
+    match reason {
+        Reason::Due => put_due(out, site, flow, count),
+        Reason::Takers {
+            item,
+            after,
+            takers,
+        } => put_needed(out, site, flow, count, item, after, takers),
+    }
+}
+
+/// Puts why so many items had been put in or taken by a line.
+fn put_step<W: Write>(out: &mut Output<'_, W>, site: &Site<'_>, flow: Flow, step: &Step)
+    ensures { Puts out.old out.new (step_text site.now flow step.now) }
+{
+    put_by_line(out, site, step.at);
+    put_reason(out, site, flow, step.count, step.reason);
+}
+
+/// Puts a step after a semicolon.
+fn put_next_step<W: Write>(out: &mut Output<'_, W>, site: &Site<'_>, flow: Flow, step: &Step)
+    ensures { Puts out.old out.new (next_step site.now flow step.now) }
+{
+    out.put(b"; ");
+    put_step(out, site, flow, step);
+}
+
+/// Puts steps, each after a semicolon.
+fn put_further_steps<W: Write>(out: &mut Output<'_, W>, site: &Site<'_>, flow: Flow, steps: &[Step])
+    ensures { Puts out.old out.new (further_steps site.now flow steps.now) }
+{
+    for step in steps {
+        put_next_step(out, site, flow, step);
+    }
+}
+
+/// Puts a step, and further ones, each after a semicolon.
+fn put_chain<W: Write>(
+    out: &mut Output<'_, W>,
+    site: &Site<'_>,
+    flow: Flow,
+    first: &Step,
+    further: &[Step],
+)
+    ensures { Puts out.old out.new (chain_text site.now flow first.now further.now) }
+{
+    put_step(out, site, flow, first);
+    put_further_steps(out, site, flow, further);
+}
+
+/// Puts steps.
+fn put_steps<W: Write>(out: &mut Output<'_, W>, site: &Site<'_>, flow: Flow, steps: &[Step])
+    ensures { Puts out.old out.new (steps_text site.now flow steps.now) }
+{
+    if let [first, further @ ..] = steps {
+        put_chain(out, site, flow, first, further);
+    }
+}
+
+/// Puts that for an item there was no room yet.
+fn put_full<W: Write>(out: &mut Output<'_, W>, site: &Site<'_>, turn: usize)
+    ensures { Puts out.old out.new (full_text site.now turn) }
+{
+    out.put(b", but no more than ");
+    put_some(out, turn.saturating_sub(room(site)), b"consume");
+    out.put(b" had been called by then, with ");
+    put_room(out, site);
+}
+
+/// Puts that an item had not been produced yet.
+fn put_empty<W: Write>(out: &mut Output<'_, W>, turn: usize)
+    ensures { Puts out.old out.new (empty_text turn) }
+{
+    out.put(b", but no more than ");
+    put_some(out, turn, b"produce");
+    out.put(b" had been called by then");
+}
+
+/// Puts that an item could not have been put in or taken yet.
+fn put_closed<W: Write>(out: &mut Output<'_, W>, site: &Site<'_>, flow: Flow, turn: usize)
+    ensures { Puts out.old out.new (closed_text site.now flow turn) }
+{
+    match flow {
+        Flow::In => put_full(out, site, turn),
+        Flow::Out => put_empty(out, turn),
+    }
+}
+
+/// Puts that too few calls could have put in or taken an item by then.
+fn put_few<W: Write>(
+    out: &mut Output<'_, W>,
+    flow: Flow,
+    turn: usize,
+    item: usize,
+    turns: usize,
+    takers: usize,
+)
+    ensures { Puts out.old out.new (few_text flow turn item turns takers) }
+{
+    out.put(b", but of the first ");
+    put_some(out, turn.saturating_add(1), b"item");
+    out.put(b", ");
+    out.put_number(turns as u64);
+    out.put(b" were ");
+    out.put_number(item as u64);
+    out.put(b", and only ");
+    put_calls(out, flow, takers);
+    out.put(b" of it had been called by then");
+}
+
+/// Puts why that can't be.
+fn put_clash<W: Write>(
+    out: &mut Output<'_, W>,
+    site: &Site<'_>,
+    flow: Flow,
+    turn: usize,
+    clash: Clash,
+)
+    ensures { Puts out.old out.new (clash_text site.now flow turn clash) }
+{
+    match clash {
+        Clash::Closed => put_closed(out, site, flow, turn),
+        Clash::Few {
+            item,
+            turns,
+            takers,
+        } => put_few(out, flow, turn, item, turns, takers),
+    }
+}
+
+/// Puts that more items had to be put in or taken by a line than could be.
+pub(crate) fn put_outrun<W: Write>(
+    out: &mut Output<'_, W>,
+    site: &Site<'_>,
+    flow: Flow,
+    steps: &[Step],
+    turn: usize,
+    clash: Clash,
+)
+    ensures { Puts out.old out.new (outrun_text site.now flow steps.now turn clash) }
+{
+    put_steps(out, site, flow, steps);
+    put_clash(out, site, flow, turn, clash);
+}

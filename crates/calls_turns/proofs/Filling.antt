@@ -1,0 +1,561 @@
+-- Takers who take turns or are free, and fills, one more each time.
+use Rattle.std.proofs.Common.{◌≡◌, ℕ, zero, suc, ◌+◌, ◌<◌, ◌≤◌, inl, inr, Bool, true, false}
+use Rattle.std.proofs.Common.{List, [], ◌∷◌, ◌++◌, refl, ap, sym, ◌∙◌, arith, cond, subst, count_by}
+use Rattle.std.proofs.Common.{get_or, length, map, take, drop, below_more, not, Option, None, Some}
+use Rattle.std.specs.Prelude.{◌==◌, ◌&&◌, nat_eq, nat_lt, nat_le}
+use Rattle.std.specs.Option.{IfNone}
+use Rattle.std.specs.List.{Contains, IsAnyAnswer, swap_remove}
+use Rattle.std.specs.List.Sorted.{IsPermutation}
+use Rattle.std.proofs.lemmas.Bool.{cases_lt}
+use Rattle.std.proofs.lemmas.Bool.Decides.{Decides-eqb, nat_tests}
+use Rattle.std.proofs.lemmas.List.{append_assoc, map_push, take_more, get_or_append_left, get_or_at}
+use Rattle.std.proofs.lemmas.List.{get_or-drop, get_or-map, length-drop, length-map, length_push}
+use Rattle.std.proofs.lemmas.List.{get_or_default}
+use Rattle.std.proofs.lemmas.List.Elements.{All-from_all_within}
+use Rattle.std.proofs.lemmas.Option.{slice_get-get_or}
+use Rattle.std.proofs.lemmas.List.Elements.{Contains-append_left, Contains-push}
+use Rattle.std.proofs.lemmas.List.Sums.{get_or-le-sum_by, sum_by_push, sum_by-swap_remove}
+use Rattle.std.proofs.lemmas.List.Sums.{sum_by-take-drop, sum_by-le-sum_by, count_by_more_yes}
+use Rattle.std.proofs.lemmas.List.Sorted.{IsPermutation-append_left, IsPermutation-pop_more}
+use Rattle.std.proofs.lemmas.List.Sorted.{All-permutation, IsPermutation-map, IsPermutation-swap_remove}
+use Rattle.calls_core.specs.Lists.{Each}
+use Rattle.calls_core.proofs.Lists.{each_append, all_from_each}
+use Rattle.calls_core.proofs.Filters.{each_from_all}
+use Rattle.calls_core.proofs.Counting.{count_cons, count_append, count_moved, count_none}
+use Rattle.calls_core.proofs.Counting.{one, one_yes, one_no}
+use Rattle.calls_turns.specs.declared.turn.Turn.{Turn}
+use Rattle.calls_turns.specs.declared.turn.Taker.{Taker}
+use Rattle.calls_turns.specs.declared.demand.Demand.{Demand}
+use Rattle.calls_turns.specs.declared.demand.Fill.{Fill}
+use Rattle.calls_turns.specs.declared.demand.Target.{Target}
+use Rattle.calls_turns.specs.declared.demand.Target.TheVariants as targets
+use Rattle.calls_turns.specs.Turns.{MayTake}
+use Rattle.calls_turns.specs.Steps.{turns_of, IsLacking, CantBeTaken}
+use Rattle.calls_turns.specs.Sweeps.{nobody, no_turn, no_fill, taker_at, turn_at, fill_at}
+use Rattle.calls_turns.specs.Sweeps.{IsFree, IsTargetDue, IsUnmet, IsFilled}
+use Rattle.calls_turns.specs.Sweeps.{AreFilled}
+use Rattle.calls_turns.specs.Swept.{IsTarget, HaveTurns, HaveTakers, turn_demand}
+use Rattle.calls_turns.specs.Swept.{taker_demand, is_met, fillers, AreSplit, HasCome, AreDueFrom}
+use Rattle.calls_turns.specs.Swept.{AreLater, free_at, IsFirstDue, IsChoice}
+
+-- COUNTS
+
+pub count_yes : {X : Type 0} (p : X → Bool) (xs : List X) (k : ℕ) (d : X) → k < length xs
+    → p (get_or xs k d) ≡ true → 0 < count_by p xs
+count_yes p xs k d lt e = omega (
+  arith,
+  get_or-le-sum_by (λ x. cond (p x) 1 0) xs k d lt,
+  one_yes (p (get_or xs k d)) e,
+)
+
+pub count_found : {X : Type 0} (p : X → Bool) (xs : List X) → 0 < count_by p xs
+    → (k : ℕ) × (k < length xs) × ((d : X) → p (get_or xs k d) ≡ true)
+count_found p [] h = absurd (omega arith)
+count_found {X} p (x ∷ xs) h =
+    elim (p x) as (λ b. p x ≡ b
+    → (k : ℕ) × (k < length (x ∷ xs)) × ((d : X) → p (get_or (x ∷ xs) k d) ≡ true)) [
+      | true ↦ λ e. (zero, (let lt : zero < length (x ∷ xs) = omega arith in lt), λ d. e)
+      | false ↦ λ e.
+          let r = count_found p xs (omega (arith, count_cons p x xs, one_no (p x) e, h)) in
+          (suc r.0, (let lt : suc r.0 < length (x ∷ xs) = omega (arith, r.1) in lt), r.2)
+    ] refl
+
+-- as many pass in one list as in the first elements of another, if they pass alike
+pub count_same : {X Y : Type 0} (p : X → Bool) (q : Y → Bool) (xs : List X) (ys : List Y) (d : X)
+    (e : Y) → length xs ≤ length ys
+    → ((i : ℕ) → i < length xs → p (get_or xs i d) ≡ q (get_or ys i e))
+    → count_by p xs ≡ count_by q (take (length xs) ys)
+count_same p q [] ys d e le h = refl
+count_same p q (x ∷ xs) [] d e le h = absurd (omega arith)
+count_same p q (x ∷ xs) (y ∷ ys) d e le h = omega (
+  arith,
+  count_cons p x xs,
+  count_cons q y (take (length xs) ys),
+  ap one (h zero (omega arith)),
+  count_same p q xs ys d e (omega arith) (λ i lt. h (suc i) (omega arith)),
+)
+
+-- WHO IS FREE
+
+abbrev pub fills_for : ℕ → List Fill → ℕ
+fills_for j fills = count_by (λ (f : Fill). f.taker == j) fills
+
+pub free_from_count : (fills : List Fill) (j k : ℕ) → fills_for j fills ≡ 0 → k ≤ length fills
+    → IsFree fills k j
+free_from_count fills j k none le = λ i lt e.
+    let some : 0 < fills_for j fills = count_yes (λ (f : Fill). f.taker == j) fills i no_fill
+    (omega arith) ((Decides-eqb (fill_at fills i).taker j).1 e) in
+    absurd (omega arith)
+
+pub count_from_free : (fills : List Fill) (j : ℕ) → IsFree fills (length fills) j
+    → fills_for j fills ≡ 0
+count_from_free fills j free =
+    elim (cases_lt 0 (fills_for j fills)) [
+      | inl some ↦
+          let r = count_found (λ (f : Fill). f.taker == j) fills some in
+          absurd (free r.0 r.1 ((Decides-eqb (fill_at fills r.0).taker j).0 (r.2 no_fill)))
+      | inr le ↦ omega arith
+    ]
+
+one_below : (j next : ℕ) → 0 < one (nat_lt j next) → j < next
+one_below j next h = grind (arith, nat_tests)
+
+one_above : (j next : ℕ) → j < next → one (nat_lt j next) ≡ 1
+one_above j next h = grind (arith, nat_tests)
+
+one_most : (b : Bool) → one b ≤ 1
+one_most true = omega arith
+one_most false = omega arith
+
+one_more : (j next : ℕ) → one (nat_lt j (next + 1)) ≡ one (nat_lt j next) + one (nat_eq next j)
+one_more j next = grind (arith, nat_tests)
+
+count_at : (free : List ℕ) (i : ℕ) → i < length free
+    → 0 < count_by (λ (x : ℕ). x == get_or free i 0) free
+count_at free i lt = count_yes (λ (x : ℕ). x == get_or free i 0) free i 0 lt
+    ((Decides-eqb (get_or free i 0) (get_or free i 0)).1 refl)
+
+pub free_below : (takers : List Taker) (fills : List Fill) (next : ℕ) (free : List ℕ)
+    → AreSplit takers fills next free → (i : ℕ) → i < length free → get_or free i 0 < next
+free_below takers fills next free s i lt = one_below (get_or free i 0) next
+    (omega (arith, count_at free i lt, s.once (get_or free i 0)))
+
+pub none_for_free : (takers : List Taker) (fills : List Fill) (next : ℕ) (free : List ℕ)
+    → AreSplit takers fills next free → (i : ℕ) → i < length free
+    → IsFree fills (length fills) (get_or free i 0)
+none_for_free takers fills next free s i lt =
+    free_from_count fills (get_or free i 0) (length fills)
+    (omega (
+      arith,
+      count_at free i lt,
+      s.once (get_or free i 0),
+      one_most (nat_lt (get_or free i 0) next),
+    )) (omega arith)
+
+pub found_free : (takers : List Taker) (fills : List Fill) (next : ℕ) (free : List ℕ)
+    → AreSplit takers fills next free → (j : ℕ) → j < next → IsFree fills (length fills) j
+    → (i : ℕ) × (i < length free) × (get_or free i 0 ≡ j)
+found_free takers fills next free s j lt none =
+    let r = count_found (λ (x : ℕ). x == j) free
+    (omega (arith, s.once j, one_above j next lt, count_from_free fills j none)) in
+    (r.0, r.1, (Decides-eqb (get_or free r.0 0) j).0 (r.2 0))
+
+-- whether a taker takes a turn
+pub taker_met : (takers : List Taker) (fills : List Fill) (next : ℕ) (free : List ℕ)
+    → AreSplit takers fills next free → (j : ℕ) → j < next → (r : Bool)
+    → IsAnyAnswer (λ (x : ℕ) (b : Bool). nat_eq x j ≡ b) free r
+    → not r ≡ nat_lt 0 (fills_for j fills)
+taker_met takers fills next free s j lt true (k, within, at) =
+    let some : 0 < count_by (λ (x : ℕ). x == j) free =
+    count_yes (λ (x : ℕ). x == j) free k 0 within (at 0) in
+    let none : fills_for j fills ≡ 0 = omega (arith, s.once j, one_above j next lt) in
+    grind (arith, nat_tests)
+taker_met takers fills next free s j lt false h =
+    let none : count_by (λ (x : ℕ). x == j) free ≡ 0 =
+    count_none (λ (x : ℕ). x == j) free
+    (All-from_all_within (λ (x : ℕ). (x == j) ≡ false) free h) in
+    let some : fills_for j fills ≡ 1 = omega (arith, s.once j, one_above j next lt) in
+    grind (arith, nat_tests)
+
+pub taker_unmet : (takers : List Taker) (fills : List Fill) (next : ℕ) (free : List ℕ)
+    → AreSplit takers fills next free → (j : ℕ) → next ≤ j
+    → false ≡ nat_lt 0 (fills_for j fills)
+taker_unmet takers fills next free s j le =
+    let once = s.once j in
+    grind (arith, nat_tests)
+
+-- what is not met is due
+pub target_due : (turns : List Turn) (takers : List Taker) (fills : List Fill) (at : ℕ)
+    (t : Target) → IsTarget turns takers at t → is_met fills t ≡ false
+    → IsTargetDue turns takers fills (length fills) at t
+target_due turns takers fills at (targets.Turn n) h e =
+    record { within = h.0; left = grind (arith, nat_tests); by = h.1 }
+target_due turns takers fills at (targets.Taker j) h e =
+    record {
+      within = h.0;
+      free = free_from_count fills j (length fills) (grind (arith, nat_tests)) (omega arith);
+      by = h.1;
+    }
+
+-- A TAKER MORE
+
+pub split_more : (takers : List Taker) (fills : List Fill) (next : ℕ) (free : List ℕ)
+    → AreSplit takers fills next free → next < length takers
+    → AreSplit takers fills (next + 1) (free ++ next ∷ [])
+split_more takers fills next free s lt =
+    let t : Taker = taker_at takers next in
+    let place : (fillers takers fills ++ map (taker_at takers) free) ++ t ∷ []
+    ≡ fillers takers fills ++ map (taker_at takers) (free ++ next ∷ []) =
+    append_assoc (fillers takers fills) (map (taker_at takers) free) (t ∷ [])
+    ∙ ap (λ l. fillers takers fills ++ l) (sym (map_push (taker_at takers) free next)) in
+    record {
+      within = omega arith;
+      once = λ j. omega (
+        arith,
+        s.once j,
+        sum_by_push (λ (x : ℕ). cond (x == j) 1 0) free next,
+        one_more j next,
+      );
+      all = subst (λ l. IsPermutation (take (next + 1) takers) l) place
+          (subst (λ l. IsPermutation l ((fillers takers fills ++ map (taker_at takers) free)
+          ++ t ∷ [])) (sym (take_more takers next nobody lt))
+          (IsPermutation-append_left (t ∷ []) (take next takers)
+          (fillers takers fills ++ map (taker_at takers) free) s.all));
+    }
+
+pub come_more : (takers : List Taker) (fills : List Fill) (next p : ℕ)
+    → HasCome takers fills next p → (taker_at takers next).from ≤ p
+    → HasCome takers fills (next + 1) p
+come_more takers fills next p h le = record {
+  until = h.until;
+  came = below_more (λ j. (taker_at takers j).from ≤ p) next h.came le;
+}
+
+-- DEMANDS
+
+pub turns_more : (end : ℕ) (turns : List Turn) (i : ℕ) (ds : List Demand)
+    → HaveTurns end turns i ds → HaveTurns end turns (i + 1) (ds ++ turn_demand turns i ∷ [])
+turns_more end turns i ds h =
+    below_more (λ n. (turn_at turns n).by < end
+    → Contains (ds ++ turn_demand turns i ∷ []) (turn_demand turns n)) i
+    (λ n lt due. Contains-append_left ds (turn_demand turns i ∷ []) (turn_demand turns n)
+    (h n lt due)) (λ due. Contains-push ds (turn_demand turns i))
+
+pub turns_past : (end : ℕ) (turns : List Turn) (i : ℕ) (ds : List Demand)
+    → HaveTurns end turns i ds → end ≤ (turn_at turns i).by → HaveTurns end turns (i + 1) ds
+turns_past end turns i ds h le =
+    below_more (λ n. (turn_at turns n).by < end → Contains ds (turn_demand turns n)) i h
+    (λ due. absurd (omega arith))
+
+pub takers_more : (end : ℕ) (takers : List Taker) (i : ℕ) (ds : List Demand)
+    → HaveTakers end takers i ds
+    → HaveTakers end takers (i + 1) (ds ++ taker_demand takers i ∷ [])
+takers_more end takers i ds h =
+    below_more (λ j. (taker_at takers j).by < end
+    → Contains (ds ++ taker_demand takers i ∷ []) (taker_demand takers j)) i
+    (λ j lt due. Contains-append_left ds (taker_demand takers i ∷ []) (taker_demand takers j)
+    (h j lt due)) (λ due. Contains-push ds (taker_demand takers i))
+
+pub takers_past : (end : ℕ) (takers : List Taker) (i : ℕ) (ds : List Demand)
+    → HaveTakers end takers i ds → end ≤ (taker_at takers i).by → HaveTakers end takers (i + 1) ds
+takers_past end takers i ds h le =
+    below_more (λ j. (taker_at takers j).by < end → Contains ds (taker_demand takers j)) i h
+    (λ due. absurd (omega arith))
+
+pub each_more : {X : Type 0} (P : X → Type 0) (xs : List X) (x : X) → Each P xs → P x
+    → Each P (xs ++ x ∷ [])
+each_more P xs x h p = each_append P xs (x ∷ []) h (p, tt)
+
+pub each_moved : {X : Type 0} (P : X → Type 0) (xs ys : List X) → IsPermutation xs ys → Each P xs
+    → Each P ys
+each_moved P xs ys moved h =
+    each_from_all P ys (All-permutation P xs ys moved (all_from_each P xs h))
+
+-- NOBODY TAKES THE NEXT TURN
+
+both_less : (a b : Bool) → one (a && b) ≤ one a
+both_less true true = omega arith
+both_less true false = omega arith
+both_less false b = omega arith
+
+not_both : (a : Bool) (n p : ℕ) → p < n → (a && nat_le n p) ≡ false
+not_both true n p lt = grind (arith, nat_tests)
+not_both false n p lt = refl
+
+not_eq : (a b : ℕ) → (a ≡ b → ⊥) → (a == b) ≡ false
+not_eq a b h = grind (arith, nat_tests)
+
+pub items_taken : (end : ℕ) (turns : List Turn) (takers : List Taker) (fills : List Fill) (v : ℕ)
+    → AreFilled end turns takers fills → length fills ≤ length turns
+    → count_by (λ (x : Taker). x.item == v) (fillers takers fills)
+    ≡ turns_of turns v (length fills)
+items_taken end turns takers fills v h le =
+    let len : length (fillers takers fills) ≡ length fills =
+    length-map fills (λ (f : Fill). taker_at takers f.taker) in
+    subst (λ n. count_by (λ (x : Taker). x.item == v) (fillers takers fills)
+    ≡ count_by (λ (t : Turn). t.item == v) (take n turns)) len
+    (count_same (λ (x : Taker). x.item == v) (λ (t : Turn). t.item == v) (fillers takers fills)
+    turns nobody no_turn (omega arith) (λ i lt.
+    let below : i < length fills = omega arith in
+    ap (λ (x : Taker). x.item == v)
+    (get_or-map (λ (f : Fill). taker_at takers f.taker) fills i no_fill nobody below)
+    ∙ ap (λ n. n == v) (h.each i below).may.item))
+
+pub lacking : (end : ℕ) (turns : List Turn) (takers : List Taker) (fills : List Fill) (next : ℕ)
+    (free : List ℕ) (p : ℕ) → AreFilled end turns takers fills → AreSplit takers fills next free
+    → AreLater takers next p → length fills < length turns
+    → ((i : ℕ) → i < length free
+    → (free_at takers free i).item ≡ (turn_at turns (length fills)).item → ⊥)
+    → IsLacking turns takers p (length fills)
+lacking end turns takers fills next free p h s later lt none =
+    let turn : Turn = turn_at turns (length fills) in
+    let v : ℕ = turn.item in
+    let q : Taker → Bool = λ (x : Taker). (x.item == v) && nat_le x.from p in
+    let r : Taker → Bool = λ (x : Taker). x.item == v in
+    let past : count_by q (drop next takers) ≡ 0 =
+    count_none q (drop next takers) (λ k d within.
+    let far : next + k < length takers = omega (arith, length-drop next takers) in
+    let same : get_or (drop next takers) k d ≡ taker_at takers (next + k) =
+    get_or-drop next takers k d ∙ get_or_default takers (next + k) d nobody far in
+    ap q same ∙ not_both ((taker_at takers (next + k)).item == v)
+    (taker_at takers (next + k)).from p (later (next + k) (omega arith) far)) in
+    let left : count_by r (map (taker_at takers) free) ≡ 0 =
+    count_none r (map (taker_at takers) free) (λ k d within.
+    let below : k < length free = omega (arith, length-map free (taker_at takers)) in
+    ap r (get_or-map (taker_at takers) free k 0 d below)
+    ∙ not_eq (free_at takers free k).item v (none k below)) in
+    record {
+      turn = turn;
+      at = slice_get-get_or turns (length fills) no_turn lt;
+      few = omega (
+        arith,
+        sum_by-take-drop (λ x. cond (q x) 1 0) takers next,
+        past,
+        sum_by-le-sum_by (λ x. cond (q x) 1 0) (λ x. cond (r x) 1 0) (take next takers)
+            (λ x. both_less (x.item == v) (nat_le x.from p)),
+        count_moved r (take next takers) (fillers takers fills ++ map (taker_at takers) free)
+            s.all,
+        count_append r (fillers takers fills) (map (taker_at takers) free),
+        left,
+        items_taken end turns takers fills v h (omega arith),
+        count_by_more_yes (λ (t : Turn). t.item == v) turns (length fills) no_turn lt
+            ((Decides-eqb v v).1 refl),
+      );
+    }
+
+none_of : (end : ℕ) (turns : List Turn) (takers : List Taker) (fills : List Fill) (next : ℕ)
+    (free : List ℕ) (p : ℕ) (r : Option ℕ) → AreFilled end turns takers fills
+    → AreSplit takers fills next free → AreLater takers next p → length fills < length turns
+    → IsChoice takers free (turn_at turns (length fills)).item (length free) r
+    → IfNone r (CantBeTaken turns takers p (length fills))
+none_of end turns takers fills next free p None h s later lt none =
+    inr (inr (lacking end turns takers fills next free p h s later lt none))
+none_of end turns takers fills next free p (Some place) h s later lt first = tt
+
+pub none_chosen : (end : ℕ) (turns : List Turn) (takers : List Taker) (fills : List Fill) (next : ℕ)
+    (free : List ℕ) (p k : ℕ) (r : Option ℕ) → AreFilled end turns takers fills
+    → AreSplit takers fills next free → AreLater takers next p → k ≡ length fills
+    → k < length turns → IsChoice takers free (turn_at turns k).item (length free) r
+    → IfNone r (CantBeTaken turns takers p (length fills))
+none_chosen end turns takers fills next free p k r h s later e lt choice =
+    none_of end turns takers fills next free p r h s later (omega arith)
+    (subst (λ n. IsChoice takers free (turn_at turns n).item (length free) r) e choice)
+
+pub closed : (turns : List Turn) (takers : List Taker) (p k n : ℕ) → k ≡ n → k < length turns
+    → p < (turn_at turns k).from → CantBeTaken turns takers p n
+closed turns takers p k n e lt before =
+    subst (λ m. CantBeTaken turns takers p m) e
+    (inr (inl (record {
+      turn = turn_at turns k;
+      at = slice_get-get_or turns k no_turn lt;
+      later = before;
+    })))
+
+-- A FILL MORE
+
+-- what is asked of a fill, apart from its place
+record IsFill (end : ℕ) (turns : List Turn) (takers : List Taker) (fills : List Fill) (k : ℕ)
+    (f : Fill) : Type 0 where
+  turn : k < length turns
+  taker : f.taker < length takers
+  unmet : IsUnmet end turns takers fills k f.demand
+  may : MayTake f.demand.at (turn_at turns k) (taker_at takers f.taker)
+  free : IsFree fills k f.taker
+  preferred : (j : ℕ) → j < length takers → IsFree fills k j
+      → (taker_at takers j).item ≡ (turn_at turns k).item
+      → (taker_at takers j).from ≤ f.demand.at
+      → (taker_at takers f.taker).by ≤ (taker_at takers j).by
+
+abbrev SameBelow : List Fill → List Fill → ℕ → Type 0
+SameBelow a b k = (i : ℕ) → i < k → fill_at a i ≡ fill_at b i
+
+free_as : (a b : List Fill) (k j : ℕ) → SameBelow a b k → IsFree a k j → IsFree b k j
+free_as a b k j same h = λ i lt e. h i lt (ap (λ (f : Fill). f.taker) (same i lt) ∙ e)
+
+due_as : (turns : List Turn) (takers : List Taker) (a b : List Fill) (k at : ℕ) (t : Target)
+    → SameBelow a b k → IsTargetDue turns takers a k at t → IsTargetDue turns takers b k at t
+due_as turns takers a b k at (targets.Turn n) same h = h
+due_as turns takers a b k at (targets.Taker j) same h =
+    record { within = h.within; free = free_as a b k j same h.free; by = h.by }
+
+fill_as : (end : ℕ) (turns : List Turn) (takers : List Taker) (a b : List Fill) (k : ℕ) (f : Fill)
+    → SameBelow a b k → IsFill end turns takers a k f → IsFill end turns takers b k f
+fill_as end turns takers a b k f same h = record {
+  turn = h.turn;
+  taker = h.taker;
+  unmet = record {
+    before = h.unmet.before;
+    due = due_as turns takers a b k f.demand.at f.demand.target same h.unmet.due;
+  };
+  may = h.may;
+  free = free_as a b k f.taker same h.free;
+  preferred = λ j within free. h.preferred j within
+      (free_as b a k j (λ i lt. sym (same i lt)) free);
+}
+
+filled_at : (end : ℕ) (turns : List Turn) (takers : List Taker) (a b : List Fill) (k : ℕ) (f : Fill)
+    → SameBelow a b k → f ≡ fill_at b k → IsFill end turns takers a k f
+    → IsFilled end turns takers b k
+filled_at end turns takers a b k f same e h =
+    let g = subst (λ x. IsFill end turns takers b k x) e
+    (fill_as end turns takers a b k f same h) in
+    record {
+      turn = g.turn;
+      taker = g.taker;
+      unmet = g.unmet;
+      may = g.may;
+      free = g.free;
+      preferred = g.preferred;
+    }
+
+fill_of : (end : ℕ) (turns : List Turn) (takers : List Taker) (fills : List Fill) (k : ℕ)
+    → IsFilled end turns takers fills k → IsFill end turns takers fills k (fill_at fills k)
+fill_of end turns takers fills k h = record {
+  turn = h.turn;
+  taker = h.taker;
+  unmet = h.unmet;
+  may = h.may;
+  free = h.free;
+  preferred = h.preferred;
+}
+
+fill_before : (fills : List Fill) (f : Fill) (i : ℕ) → i < length fills
+    → fill_at fills i ≡ fill_at (fills ++ f ∷ []) i
+fill_before fills f i lt = sym (get_or_append_left fills (f ∷ []) no_fill i lt)
+
+fill_last : (fills : List Fill) (f : Fill) → f ≡ fill_at (fills ++ f ∷ []) (length fills)
+fill_last fills f = sym (get_or_at fills f [] no_fill (length fills) refl)
+
+pub until_more : (fills : List Fill) (f : Fill) (p : ℕ)
+    → ((k : ℕ) → k < length fills → (fill_at fills k).demand.at ≤ p) → f.demand.at ≤ p → (k : ℕ)
+    → k < length (fills ++ f ∷ []) → (fill_at (fills ++ f ∷ []) k).demand.at ≤ p
+until_more fills f p h le k lt =
+    elim (cases_lt k (length fills)) [
+      | inl below ↦ subst (λ (g : Fill). g.demand.at ≤ p) (fill_before fills f k below) (h k below)
+      | inr above ↦
+          let e : length fills ≡ k = omega (arith, length_push fills f) in
+          subst (λ n. (fill_at (fills ++ f ∷ []) n).demand.at ≤ p) e
+          (subst (λ (g : Fill). g.demand.at ≤ p) (fill_last fills f) le)
+    ]
+
+filled_more : (end : ℕ) (turns : List Turn) (takers : List Taker) (fills : List Fill) (f : Fill)
+    → AreFilled end turns takers fills → IsFill end turns takers fills (length fills) f
+    → ((k : ℕ) → k < length fills → (fill_at fills k).demand.at ≤ f.demand.at)
+    → AreFilled end turns takers (fills ++ f ∷ [])
+filled_more end turns takers fills f h new until =
+    let gs : List Fill = fills ++ f ∷ [] in
+    record {
+      each = λ k lt. elim (cases_lt k (length fills)) [
+        | inl below ↦ filled_at end turns takers fills gs k (fill_at fills k)
+            (λ i less. fill_before fills f i (omega arith)) (fill_before fills f k below)
+            (fill_of end turns takers fills k (h.each k below))
+        | inr above ↦
+            let e : length fills ≡ k = omega (arith, length_push fills f) in
+            subst (λ n. IsFilled end turns takers gs n) e
+            (filled_at end turns takers fills gs (length fills) f
+            (λ i less. fill_before fills f i less) (fill_last fills f) new)
+      ];
+      rises = λ i k le lt. elim (cases_lt k (length fills)) [
+        | inl below ↦
+            let first : i < length fills = omega arith in
+            subst (λ (g : Fill). g.demand.at ≤ (fill_at gs k).demand.at)
+            (fill_before fills f i first)
+            (subst (λ (g : Fill). (fill_at fills i).demand.at ≤ g.demand.at)
+            (fill_before fills f k below) (h.rises i k le below))
+        | inr above ↦
+            let e : length fills ≡ k = omega (arith, length_push fills f) in
+            subst (λ n. (fill_at gs i).demand.at ≤ (fill_at gs n).demand.at) e
+            (subst (λ (g : Fill). (fill_at gs i).demand.at ≤ g.demand.at) (fill_last fills f)
+            (until_more fills f f.demand.at until (omega arith) i (omega arith)))
+      ];
+    }
+
+pub filled_next : (end : ℕ) (turns : List Turn) (takers : List Taker) (fills : List Fill)
+    (next : ℕ) (free : List ℕ) (d : Demand) (place x : ℕ) → AreFilled end turns takers fills
+    → AreSplit takers fills next free → HasCome takers fills next d.at
+    → AreDueFrom turns takers fills d.at → AreLater takers next d.at
+    → IsUnmet end turns takers fills (length fills) d → length fills < length turns
+    → (turn_at turns (length fills)).from ≤ d.at
+    → IsFirstDue takers free (turn_at turns (length fills)).item (length free) place
+    → x ≡ get_or free place 0
+    → (let f : Fill = record { taker = x; demand = d } in
+    AreFilled end turns takers (fills ++ f ∷ []))
+filled_next end turns takers fills next free d place x h s come due later unmet lt from first e =
+    let k : ℕ = length fills in
+    let j : ℕ = get_or free place 0 in
+    let f : Fill = record { taker = j; demand = d } in
+    let below : j < next = free_below takers fills next free s place first.within in
+    let within : j < length takers = omega (arith, s.within) in
+    let none : IsFree fills k j = none_for_free takers fills next free s place first.within in
+    let fit : IsFill end turns takers fills k f = record {
+      turn = lt;
+      taker = within;
+      unmet = unmet;
+      may = record {
+        item = first.of_item;
+        turn_from = from;
+        turn_by = due.turns_due k (omega arith) lt;
+        from = come.came j below;
+        by = due.takers_due j within none;
+      };
+      free = none;
+      preferred = λ i inside free_i item early.
+          elim (cases_lt i next) [
+            | inl before ↦
+                let r = found_free takers fills next free s i before free_i in
+                subst (λ n. (taker_at takers j).by ≤ (taker_at takers n).by) r.2
+                (first.least r.0 r.1 (ap (λ n. (taker_at takers n).item) r.2 ∙ item))
+            | inr past ↦ absurd (omega (arith, later i past inside))
+          ];
+    } in
+    subst (λ n. (let g : Fill = record { taker = n; demand = d } in
+    AreFilled end turns takers (fills ++ g ∷ []))) (sym e)
+    (filled_more end turns takers fills f h fit come.until)
+
+pub split_next : (takers : List Taker) (fills : List Fill) (next : ℕ) (free : List ℕ) (f : Fill)
+    (place : ℕ) → AreSplit takers fills next free → place < length free
+    → f.taker ≡ get_or free place f.taker
+    → AreSplit takers (fills ++ f ∷ []) next (swap_remove free place f.taker)
+split_next takers fills next free f place s lt e = record {
+  within = s.within;
+  once = λ j. omega (
+    arith,
+    s.once j,
+    sum_by-swap_remove (λ (x : ℕ). cond (x == j) 1 0) free place f.taker lt,
+    sum_by_push (λ (g : Fill). cond (g.taker == j) 1 0) fills f,
+    ap (λ (x : ℕ). one (x == j)) e,
+  );
+  all = subst (λ l. IsPermutation (take next takers)
+      (l ++ map (taker_at takers) (swap_remove free place f.taker)))
+      (sym (map_push (λ (g : Fill). taker_at takers g.taker) fills f))
+      (IsPermutation-pop_more (take next takers) (fillers takers fills)
+      (map (taker_at takers) free) (map (taker_at takers) (swap_remove free place f.taker))
+      (taker_at takers f.taker) s.all
+      (IsPermutation-map (taker_at takers) free (f.taker ∷ swap_remove free place f.taker)
+      (IsPermutation-swap_remove free place f.taker lt e)));
+}
+
+pub come_next : (takers : List Taker) (fills : List Fill) (next p : ℕ) (f : Fill)
+    → HasCome takers fills next p → f.demand.at ≤ p → HasCome takers (fills ++ f ∷ []) next p
+come_next takers fills next p f h le =
+    record { until = until_more fills f p h.until le; came = h.came }
+
+free_fewer : (fills : List Fill) (f : Fill) (j : ℕ)
+    → IsFree (fills ++ f ∷ []) (length (fills ++ f ∷ [])) j → IsFree fills (length fills) j
+free_fewer fills f j h = λ i lt e. h i (omega (arith, length_push fills f))
+    (ap (λ (g : Fill). g.taker) (sym (fill_before fills f i lt)) ∙ e)
+
+pub due_next : (turns : List Turn) (takers : List Taker) (fills : List Fill) (p : ℕ) (f : Fill)
+    → AreDueFrom turns takers fills p → AreDueFrom turns takers (fills ++ f ∷ []) p
+due_next turns takers fills p f h = record {
+  turns_due = λ n le lt. h.turns_due n (omega (arith, length_push fills f)) lt;
+  takers_due = λ j lt none. h.takers_due j lt (free_fewer fills f j none);
+}
+
+pub met_next : (fills : List Fill) (f : Fill) (t : Target) → is_met fills t ≡ true
+    → is_met (fills ++ f ∷ []) t ≡ true
+met_next fills f (targets.Turn n) h =
+    let len = length_push fills f in grind (arith, nat_tests)
+met_next fills f (targets.Taker j) h =
+    let more = sum_by_push (λ (g : Fill). cond (g.taker == j) 1 0) fills f in
+    grind (arith, nat_tests)

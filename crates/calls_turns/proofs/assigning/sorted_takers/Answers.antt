@@ -1,0 +1,9 @@
+use Rattle.std.proofs.Common.{rules}
+use Rattle.std.proofs.lemmas.List.Sorted.{IsNonDecreasingBy-from_sort_by_key}
+use Rattle.calls_turns.specs.declared.turn.Taker.{Taker}
+use Rattle.calls_turns.proofs.assigning.sorted_takers.Goals as goal
+
+pub returns-clause-sorted : goal.returns-clause-sorted
+returns-clause-sorted c =
+    IsNonDecreasingBy-from_sort_by_key (λ (x : Taker). x.from) _
+    c.in_ok-sort_by_key.ensures.sorted (λ a r q k. search rules)

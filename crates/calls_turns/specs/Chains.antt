@@ -1,0 +1,55 @@
+-- Steps to a demand that is not met, each found before the one that it follows from.
+use Rattle.std.specs.Prelude.{◌≡◌, ℕ, ◌+◌, ◌<◌, ◌≤◌, List, length, Option, Some, None, IfSome}
+use Rattle.calls_turns.specs.declared.turn.Turn.{Turn}
+use Rattle.calls_turns.specs.declared.turn.Taker.{Taker}
+use Rattle.calls_turns.specs.declared.turn.Step.{Step}
+use Rattle.calls_turns.specs.declared.demand.Fill.{Fill}
+use Rattle.calls_turns.specs.declared.chaining.Stretch.{Stretch}
+use Rattle.calls_turns.specs.declared.chaining.Link.{Link}
+use Rattle.calls_turns.specs.Steps.{turns_of, reached, IsStep}
+use Rattle.calls_turns.specs.Sweeps.{turn_at, fill_at, filler}
+
+-- the turns that were taken are there, and those who took them
+abbrev pub AreThere : List Turn → List Taker → List Fill → Type 0
+AreThere turns takers fills = (k : ℕ) → k < length fills
+    → (k < length turns) × ((fill_at fills k).taker < length takers)
+
+-- the first turn after another one, if there is one
+abbrev pub after : Option ℕ → ℕ
+after None = 0
+after (Some i) = i + 1
+
+-- the position by which a turn was taken
+abbrev pub position_of : List Fill → Option ℕ → Option ℕ
+position_of fills None = None
+position_of fills (Some i) = Some (fill_at fills i).demand.at
+
+-- turn i is of item v, and was taken by somebody who is due after position p
+pub record IsBarrier (turns : List Turn) (takers : List Taker) (fills : List Fill)
+    (v p i : ℕ) : Type 0 where
+  pub item : (turn_at turns i).item ≡ v
+  pub later : p < (filler takers fills i).by
+
+-- after the barrier and before turn k all turns of item v were taken by takers who are due by
+-- position p. There is one taker more
+pub record IsStretch (turns : List Turn) (takers : List Taker) (fills : List Fill)
+    (v p k : ℕ) (s : Stretch) : Type 0 where
+  pub before : after s.barrier ≤ k
+  pub barrier : IfSome s.barrier (IsBarrier turns takers fills v p)
+  pub counted : turns_of turns v k + 1 ≡ turns_of turns v (after s.barrier) + s.takers
+  pub due : (i : ℕ) → after s.barrier ≤ i → i < k → (turn_at turns i).item ≡ v
+      → (filler takers fills i).by ≤ p
+
+-- turn i was taken by the position of its demand, by these steps
+abbrev pub Reaches : List Fill → List Step → ℕ → Type 0
+Reaches fills ss i = i < reached ss (fill_at fills i).demand.at
+
+-- the step says that turn k is taken by position p, and follows from steps that reach the turn that
+-- it needs
+pub record IsLink (end : ℕ) (turns : List Turn) (takers : List Taker) (fills : List Fill)
+    (k p : ℕ) (link : Link) : Type 0 where
+  pub at : link.step.at ≡ p
+  pub count : k < link.step.count
+  pub needs : IfSome link.needs (λ i. i < k)
+  pub step : (ss : List Step) → IfSome link.needs (Reaches fills ss)
+      → IsStep end turns takers ss link.step

@@ -1,0 +1,7 @@
+pub mod Turns
+pub mod Steps
+pub mod Outcomes
+pub mod Laws
+pub mod Sweeps
+pub mod Chains
+pub mod Swept

@@ -1,0 +1,14 @@
+//! Gives turns, which are taken one after another, to those who take them.
+#![tactic(auto)]
+
+mod assigning;
+mod chaining;
+mod clash;
+mod demand;
+mod laws;
+mod sweeping;
+mod turn;
+
+pub use assigning::{Outcome, assign};
+pub use laws::steps_leave_no_taking;
+pub use turn::{Clash, Reason, Step, Taker, Turn};
