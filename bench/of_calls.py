@@ -8,6 +8,7 @@ import os
 import subprocess
 
 import histories
+import queues
 from measuring import MIB, SIZES, Figure, Target, best_of, fail, figures_of, measure, millis, say, table
 
 # The histories of bench_calls, by its words, with the names that histories.py has for these kinds, and how many calls each has.
@@ -40,6 +41,11 @@ TEXT_RATIO = Target("`evc-calls check` / baseline", 1.5)
 TEXT_SPEED = Target("`evc-calls check`: MB/s", 100, least=True, digits=0)
 TEXT_MEMORY = Target("`evc-calls check`: memory without text / text", 0.5, digits=1)
 TEXT_GROWTH = Target(f"`evc-calls check`: {SIZES[-1]} MiB / {SIZES[0]} MiB", 8.5, digits=1)
+# Histories of buffers: how many items they have.
+ITEM_COUNTS = (100_000, 1_000_000)
+BUFFER_SPEED = Target("`evc-calls check` of buffers: MB/s", 50, least=True, digits=0)
+BUFFER_MEMORY = Target("`evc-calls check` of buffers: memory / text", 2, digits=1)
+BUFFER_GROWTH = Target("`evc-calls check` of buffers: time / that of a tenth", 11, digits=1)
 WATCH_SPEED = Target("`evc-calls watch`: MB/s", 100, least=True, digits=0)
 WATCH_MEMORY = Target("`evc-calls watch`: MiB", 8, digits=1)
 
@@ -121,6 +127,26 @@ def measure_check(check, rust, folder):
     table(f"evc-calls check, {TEXT_CALLS} calls", head, rows)
     small, large = MIXED.values()
     return [*figures, Figure(TEXT_GROWTH, "mixed", taken[large] / taken[small])]
+
+
+def measure_buffers(check, folder):
+    """Measures `evc-calls check` on histories of buffers, which no plain Rust decides."""
+    rows, figures, path = [], [], os.path.join(folder, "buffer.calls")
+    for kind in queues.KINDS:
+        taken = []
+        for items in ITEM_COUNTS:
+            say(f"making the history of a buffer '{kind}'")
+            queues.write_history(path, kind, items)
+            taken += best_of([[check, "check"]], path)
+        (tenth, _), (seconds, peak) = taken
+        text = os.path.getsize(path)
+        found = [Figure(BUFFER_SPEED, kind, text / 1e6 / seconds), Figure(BUFFER_MEMORY, kind, peak / text)]
+        found.append(Figure(BUFFER_GROWTH, kind, seconds / tenth))
+        rows.append([kind, f"{text / 1e6:.1f}", *millis(seconds), *(it.text() for it in found)])
+        figures += found
+    head = ["history of a buffer", "MB", "ms", "MB/s", "memory by text", "by a tenth"]
+    table(f"evc-calls check, {ITEM_COUNTS[-1]} items", head, rows)
+    return figures
 
 
 def measure_watch(calls, folder):
