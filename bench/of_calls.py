@@ -41,8 +41,8 @@ TEXT_RATIO = Target("`evc-calls check` / baseline", 1.5)
 TEXT_SPEED = Target("`evc-calls check`: MB/s", 100, least=True, digits=0)
 TEXT_MEMORY = Target("`evc-calls check`: memory without text / text", 0.5, digits=1)
 TEXT_GROWTH = Target(f"`evc-calls check`: {SIZES[-1]} MiB / {SIZES[0]} MiB", 8.5, digits=1)
-# Histories of buffers: how many items they have.
-ITEM_COUNTS = (100_000, 1_000_000)
+# Histories of buffers: how many items they have, each of two calls.
+ITEM_COUNTS = (50_000, 500_000)
 BUFFER_SPEED = Target("`evc-calls check` of buffers: MB/s", 50, least=True, digits=0)
 BUFFER_MEMORY = Target("`evc-calls check` of buffers: memory / text", 2, digits=1)
 BUFFER_GROWTH = Target("`evc-calls check` of buffers: time / that of a tenth", 11, digits=1)
@@ -145,7 +145,7 @@ def measure_buffers(check, folder):
         rows.append([kind, f"{text / 1e6:.1f}", *millis(seconds), *(it.text() for it in found)])
         figures += found
     head = ["history of a buffer", "MB", "ms", "MB/s", "memory by text", "by a tenth"]
-    table(f"evc-calls check, {ITEM_COUNTS[-1]} items", head, rows)
+    table(f"evc-calls check, {ITEM_COUNTS[-1]} items of a buffer", head, rows)
     return figures
 
 

@@ -59,7 +59,7 @@ def summary(text_of):
     growths = {**of_traces.GROWTH, "evc-calls check": of_calls.TEXT_GROWTH}
     yield f"{SIZES[-1]} MiB / {SIZES[0]} MiB: {', '.join(f'`{it}` {worst(growths[it])}' for it in growths)}."
     speed, memory, growth = map(worst, (of_calls.BUFFER_SPEED, of_calls.BUFFER_MEMORY, of_calls.BUFFER_GROWTH))
-    yield f"A million items of a buffer: `evc-calls check` {speed} MB/s, memory / text {memory}, / a tenth {growth}."
+    yield f"A million calls of a buffer: `evc-calls check` {speed} MB/s, memory / text {memory}, / a tenth {growth}."
     decide, monitor = map(worst, of_calls.JUDGED_GROWTH.values())
     yield f"A million calls / a tenth: `decide` {decide}, `Monitor` {monitor}."
     audit, upgrade = worst(of_traces.MEMORY["audit"], " MiB"), worst(of_traces.UPGRADE_MEMORY)
