@@ -54,7 +54,7 @@ item_calls (item.Overtaken p c before later all) = p ∷ c ∷ []
 item_calls (item.Passed p c left pending) = p ∷ c ∷ []
 item_calls (item.Squeezed q p left pending) = q ∷ p ∷ []
 item_calls (item.Overdue bounds) = []
-item_calls (item.Outrun flow steps turn clash) = []
+item_calls (item.Outrun flow steps clash) = []
 
 abbrev pub faulty_calls : Fault → List Call
 faulty_calls (faults.Count f) = counted_calls f

@@ -1,5 +1,9 @@
 pub mod Counts
+pub mod Tallies
 pub mod Lasting
 pub mod Stretches
+pub mod Joins
+pub mod Shortfalls
+pub mod Lacks
 pub mod Filling
 pub mod Assignments

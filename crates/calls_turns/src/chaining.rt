@@ -1,5 +1,6 @@
 //! Steps that show why a turn has to be taken by a position.
-ghost use Rattle.std.specs.Prelude.{◌≡◌, ◌<◌, ◌≤◌, length, reverse, IfOk, IfSome};
+ghost use Rattle.std.specs.Prelude.{◌≡◌, ◌<◌, ◌≤◌, length, IfOk, IfSome};
+ghost use Rattle.calls_turns.specs.Turns.{OthersNotDue};
 ghost use Rattle.calls_turns.specs.Sweeps.{AreFilled, IsUnmet, IsChain};
 ghost use Rattle.calls_turns.specs.Chains.{AreThere, position_of, IsStretch, IsLink};
 
@@ -76,6 +77,7 @@ fn link_of(
     turn: usize,
 ) -> Link
     requires filled { AreFilled end turns.now takers.now fills.now }
+    requires others { OthersNotDue end takers.now }
     requires within { turn ≤ length fills.now }
     requires unmet { IsUnmet end turns.now takers.now fills.now turn demand }
     ensures { IsLink end turns.now takers.now fills.now turn demand.at result }
@@ -91,7 +93,7 @@ fn link_of(
             needs: None,
         },
         Target::Taker(j) => {
-            let item = takers[j].item;
+            let item = takers[j].item.unwrap();
             let stretch = stretch_of(turns, takers, fills, item, demand.at, turn);
             Link {
                 step: Step {
@@ -109,7 +111,7 @@ fn link_of(
     }
 }
 
-/// Lists the steps to a demand that is not met.
+/// Lists the steps to a demand that was not met when this turn was next, the last one first.
 pub(crate) fn steps_of(
     alloc: Global,
     end: usize,
@@ -117,24 +119,25 @@ pub(crate) fn steps_of(
     takers: &[Taker],
     fills: &[Fill],
     demand: Demand,
+    turn: usize,
 ) -> Result<Vec<Step>, AllocError>
     requires filled { AreFilled end turns.now takers.now fills.now }
-    requires unmet { IsUnmet end turns.now takers.now fills.now (length fills.now) demand }
-    ensures { IfOk result (λ steps. IsChain end turns.now takers.now (length fills.now) demand.at
-        (reverse steps.items)) }
+    requires others { OthersNotDue end takers.now }
+    requires within { turn ≤ length fills.now }
+    requires unmet { IsUnmet end turns.now takers.now fills.now turn demand }
+    ensures { IfOk result (λ steps. IsChain end turns.now takers.now turn demand.at steps.items) }
 {
     let mut steps = Vec::new(alloc);
     let mut pending = demand;
-    let mut turn = fills.len();
+    let mut k = turn;
     'back: loop {
-        let link = link_of(end, turns, takers, fills, pending, turn);
+        let link = link_of(end, turns, takers, fills, pending, k);
         steps.push(link.step)?;
-        let Some(k) = link.needs else {
+        let Some(barrier) = link.needs else {
             break 'back;
         };
-        pending = fills[k].demand;
-        turn = k;
+        pending = fills[barrier].demand;
+        k = barrier;
     }
-    steps.reverse();
     Ok(steps)
 }

@@ -5,11 +5,11 @@ use Rattle.calls_turns.proofs.chaining.steps_of.Given as goal
 
 abbrev pub invariant-back : goal.invariant-back
 invariant-back l = record {
-  within : l.turn ≤ length l.fills;
-  unmet : IsUnmet l.end l.turns l.takers l.fills l.turn l.pending;
-  completes : Completes l.end l.turns l.takers (length l.fills) l.fn.demand.at l.steps.items l.turn
+  within : l.k ≤ length l.fills;
+  unmet : IsUnmet l.end l.turns l.takers l.fills l.k l.pending;
+  completes : Completes l.end l.turns l.takers l.fn.turn l.fn.demand.at l.steps.items l.k
       l.pending.at;
 }
 
 abbrev pub decreases-back : goal.decreases-back
-decreases-back l = l.turn
+decreases-back l = l.k
