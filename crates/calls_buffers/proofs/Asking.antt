@@ -55,6 +55,19 @@ took test (PBoth i j) r e = absurd (cc)
 took test (Put v) r e = absurd (cc)
 took test Get r e = absurd (cc)
 
+pub consumes : (op : Op) → is_consume op ≡ true → op ≡ Consume
+consumes Consume e = refl
+consumes (Produce v) e = absurd (cc)
+consumes Advance e = absurd (cc)
+consumes Read e = absurd (cc)
+consumes (Await v) e = absurd (cc)
+consumes Ticket e = absurd (cc)
+consumes (P i) e = absurd (cc)
+consumes (V i) e = absurd (cc)
+consumes (PBoth i j) e = absurd (cc)
+consumes (Put v) e = absurd (cc)
+consumes Get e = absurd (cc)
+
 pub take_asked : (test : ℕ → Bool) (op : Op) (r : Reply) → took_one test op r ≡ true
     → is_consume op ≡ true
 take_asked test op r e = ap is_consume (took test op r e).asks

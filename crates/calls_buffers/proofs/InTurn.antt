@@ -270,7 +270,7 @@ each_known P Q (x ∷ xs) h f = (
   each_known P Q xs h.1 (λ y k p. f y (Contains-append_right (x ∷ []) xs y k) p),
 )
 
-each_pair_both : {X : Type 0} (R S : X → X → Type 0) (xs : List X) → EachPair R xs
+pub each_pair_both : {X : Type 0} (R S : X → X → Type 0) (xs : List X) → EachPair R xs
     → ((x y : X) → Contains xs x → Contains xs y → R x y → S x y) → EachPair S xs
 each_pair_both R S [] h f = tt
 each_pair_both R S (x ∷ xs) h f = (

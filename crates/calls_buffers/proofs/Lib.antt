@@ -38,3 +38,4 @@ pub mod Timing
 pub mod Takings
 pub mod PutSteps
 pub mod PutTurns
+pub mod Settled

@@ -3,6 +3,7 @@ use Rattle.std.proofs.Common.{◌≡◌, ℕ, ◌+◌, ◌<◌, ◌≤◌, ◌�
 use Rattle.std.proofs.Common.{[], ◌∷◌, ◌++◌, map, Option, Some, None, refl, ap, sym, ◌∙◌}
 use Rattle.std.proofs.Common.{subst, arith, append_assoc, count_by}
 use Rattle.std.specs.List.Sorted.{IsPermutation}
+use Rattle.std.proofs.lemmas.Option.{same_Some, none-some}
 use Rattle.std.proofs.lemmas.List.{map-append}
 use Rattle.std.proofs.lemmas.List.Sorted.{IsPermutation-refl, IsPermutation-trans}
 use Rattle.std.proofs.lemmas.List.Sorted.{IsPermutation-append_left, IsPermutation-append_right}
@@ -23,14 +24,16 @@ use Rattle.calls_core.proofs.Lists.{each_weaker, each_append}
 use Rattle.calls_core.proofs.Counting.{one, count_cons}
 use Rattle.calls_core.proofs.Filters.{permutation_same}
 use Rattle.calls_turns.specs.declared.turn.Taker.{Taker}
+use Rattle.calls_buffers.specs.declared.accesses.Place.TheVariants.{Pending}
 use Rattle.calls_buffers.specs.declared.accesses.Access.{Access}
-use Rattle.calls_buffers.specs.Counts.{any_item, took_one, is_take}
-use Rattle.calls_buffers.specs.Turns.{puts_of, takes_of, takers_of}
+use Rattle.calls_buffers.specs.Counts.{any_item, is_consume, took_one, is_take}
+use Rattle.calls_buffers.specs.Turns.{puts_of, takes_of, takers_of, asker_of, askers_of}
 use Rattle.calls_buffers.specs.Accesses.{AreWithin}
 use Rattle.calls_buffers.specs.Accesses.{produced_item, put_item, taken_item}
 use Rattle.calls_buffers.specs.Accesses.{access_of, accesses, asked_of, asked}
 use Rattle.calls_buffers.proofs.Alongside.{Both, both_append, both_moved, joined}
 use Rattle.calls_buffers.proofs.Alongside.{joined_append, to_second, joined_moved, each_moved}
+use Rattle.calls_buffers.proofs.AreWindows.{taken_is}
 use Rattle.calls_buffers.proofs.Cuts.{Lasts, not_before}
 use Rattle.calls_buffers.proofs.Flows.{put_by, taken_by, put_items, taken_items}
 use Rattle.calls_buffers.proofs.Steps.{Times}
@@ -371,14 +374,106 @@ empty_match end (c ∷ cs) e = (
 -- TAKERS
 
 pub record IsTakerOf (x : Taker) (a : Access) : Type 0 where
-  pub item : x.item ≡ a.item
+  pub item : (v : ℕ) → x.item ≡ Some v → v ≡ a.item
   pub from : x.from ≡ a.first
   pub by : x.by ≡ a.last
 
 pub are_takers : (i : ℕ) (list : List Access) → Both IsTakerOf (takers_of i list) list
 are_takers i [] = tt
-are_takers i (a ∷ list) =
-    (record { item = refl; from = refl; by = refl }, are_takers (i + 1) list)
+are_takers i (a ∷ list) = (
+  record { item = λ v e. sym (same_Some a.item v e); from = refl; by = refl },
+  are_takers (i + 1) list,
+)
+
+-- the pending consumes that take an item out, and the others
+record Askers (t end : ℕ) (i : ℕ) (os : List PendingCall) (cs : List Call) : Type 0 where
+  lists : List (List Access)
+  takers : List Taker
+  rest : List Taker
+  are : Both (Matches taken_item end) lists cs
+  both : Both IsTakerOf takers (joined lists)
+  left : Each (λ (x : Taker). end ≤ x.by) rest
+  all : IsPermutation (askers_of end i os) (takers ++ rest)
+
+module _ (t end : ℕ) (answer : PendingCall → Option Reply) where
+  asker_left : (i : ℕ) (o : PendingCall) (b : Bool)
+      → Each (λ (x : Taker). end ≤ x.by) (asker_of end i o b)
+  asker_left i o false = tt
+  asker_left i o true = (omega arith, tt)
+
+  -- one that takes nothing
+  without_one : (i : ℕ) (o : PendingCall) (os : List PendingCall) (cs : List Call)
+      → Askers t end (i + 1) os cs → Askers t end i (o ∷ os) cs
+  without_one i o os cs r =
+      let own : List Taker = asker_of end i o (is_consume o.op) in
+      record {
+        lists = r.lists;
+        takers = r.takers;
+        rest = own ++ r.rest;
+        are = r.are;
+        both = r.both;
+        left = each_append (λ (x : Taker). end ≤ x.by) own r.rest (asker_left i o (is_consume o.op))
+            r.left;
+        all = IsPermutation-trans _ _ _
+            (IsPermutation-append_right own (askers_of end (i + 1) os) (r.takers ++ r.rest) r.all)
+            (to_second own r.takers r.rest);
+      }
+
+  with_one : (i : ℕ) (o : PendingCall) (os : List PendingCall) (cs : List Call) (x : Reply)
+      → Askers t end (i + 1) os cs → (v : Option ℕ) → taken_item o.op x ≡ v
+      → Askers t end i (o ∷ os) (completion t x o ∷ cs)
+  with_one i o os cs x r None e =
+      let left = without_one i o os cs r in record {
+        lists = [] ∷ left.lists;
+        takers = left.takers;
+        rest = left.rest;
+        are = (subst (λ p. Match end (completion t x o) p []) (sym e) tt, left.are);
+        both = left.both;
+        left = left.left;
+        all = left.all;
+      }
+  with_one i o os cs x r (Some v) e =
+      let asks : is_consume o.op ≡ true = ap is_consume (taken_is v o.op x e).0 in
+      let own : Taker = record { call = i; item = None; from = o.first; by = end } in
+      let access : Access = record { item = v; place = Pending i; first = o.first; last = end } in
+      record {
+        lists = (access ∷ []) ∷ r.lists;
+        takers = own ∷ r.takers;
+        rest = r.rest;
+        are = (
+          subst (λ p. Match end (completion t x o) p (access ∷ [])) (sym e)
+              (record { item = refl; first = refl; last = inr refl }),
+          r.are,
+        );
+        both = (
+          record { item = λ w q. absurd (none-some w q); from = refl; by = refl },
+          r.both,
+        );
+        left = r.left;
+        all = subst (λ b. IsPermutation (asker_of end i o b ++ askers_of end (i + 1) os)
+            (own ∷ (r.takers ++ r.rest))) (sym asks)
+            (IsPermutation-append_right (own ∷ []) (askers_of end (i + 1) os) (r.takers ++ r.rest)
+            r.all);
+      }
+
+  one_asker : (i : ℕ) (o : PendingCall) (os : List PendingCall) (cs : List Call)
+      → (r : Option Reply) → Askers t end (i + 1) os cs
+      → Askers t end i (o ∷ os) (answered_one t o r ++ cs)
+  one_asker i o os cs None r = without_one i o os cs r
+  one_asker i o os cs (Some x) r = with_one i o os cs x r (taken_item o.op x) refl
+
+  askers_of_all : (i : ℕ) (os : List PendingCall) → Askers t end i os (answered_calls t answer os)
+  askers_of_all i [] = record {
+    lists = [];
+    takers = [];
+    rest = [];
+    are = tt;
+    both = tt;
+    left = tt;
+    all = IsPermutation-refl [];
+  }
+  askers_of_all i (o ∷ os) =
+      one_asker i o os (answered_calls t answer os) (answer o) (askers_of_all (i + 1) os)
 
 -- ONE LINEARIZATION
 
@@ -396,6 +491,17 @@ pub record AreTakesOf (end : ℕ) (done : List Call) (cs : List Call) : Type 0 w
   pub lists : List (List Access)
   pub are : Both (Matches taken_item end) lists cs
   pub all : IsPermutation (takes_of done) (joined lists)
+
+-- those who take items out, in its order, and those who don't
+pub record AreTakersIn (end : ℕ) (done : List Call) (pending : List PendingCall) (cs : List Call)
+    : Type 0 where
+  pub lists : List (List Access)
+  pub order : List Taker
+  pub rest : List Taker
+  pub are : Both (Matches taken_item end) lists cs
+  pub both : Both IsTakerOf order (joined lists)
+  pub left : Each (λ (x : Taker). end ≤ x.by) rest
+  pub all : IsPermutation (takers_of 0 (takes_of done) ++ askers_of end 0 pending) (order ++ rest)
 
 module _ (n t : ℕ) (done : List Call) (pending : List PendingCall) (cs : List Call)
     (l : IsLinearOrder (IsLegalHistory (initial (Some (Buffer n)))) done pending t cs)
@@ -461,4 +567,38 @@ module _ (n t : ℕ) (done : List Call) (pending : List PendingCall) (cs : List 
             ∙ ap (λ zs. zs ++ joined own) (sym (empty_joined answered))
             ∙ sym (joined_append empty own)))
             (joined_moved (empty ++ own) r.list r.moved);
+      }
+
+  pub takers_in : AreTakersIn end done pending cs
+  takers_in =
+      let a = askers_of_all t end l.answer 0 pending in
+      let own : List (List Access) = lists taken_item 0 done in
+      let done_takers : List Taker = takers_of 0 (takes_of done) in
+      let r = both_moved (Matches taken_item end) (answered ++ done) cs l.each_once (a.lists ++ own)
+      (both_append (Matches taken_item end) a.lists own answered done a.are
+      (lists_match taken_item end 0 done)) in
+      let done_both : Both IsTakerOf done_takers (joined own) =
+      subst (Both IsTakerOf done_takers) (sym (lists_joined taken_item 0 done))
+      (are_takers 0 (takes_of done)) in
+      let together : Both IsTakerOf (a.takers ++ done_takers) (joined (a.lists ++ own)) =
+      subst (Both IsTakerOf (a.takers ++ done_takers)) (sym (joined_append a.lists own))
+      (both_append IsTakerOf a.takers done_takers (joined a.lists) (joined own) a.both done_both) in
+      let s = both_moved IsTakerOf (joined (a.lists ++ own)) (joined r.list)
+      (joined_moved (a.lists ++ own) r.list r.moved) (a.takers ++ done_takers) together in
+      record {
+        lists = r.list;
+        order = s.list;
+        rest = a.rest;
+        are = r.both;
+        both = s.both;
+        left = a.left;
+        all = IsPermutation-trans _ _ _
+            (IsPermutation-append_right done_takers (askers_of end 0 pending) (a.takers ++ a.rest)
+            a.all)
+            (IsPermutation-trans _ _ _ (to_second done_takers a.takers a.rest)
+            (IsPermutation-trans _ _ _
+            (permutation_same (a.takers ++ (done_takers ++ a.rest))
+            ((a.takers ++ done_takers) ++ a.rest)
+            (sym (append_assoc a.takers done_takers a.rest)))
+            (IsPermutation-append_left a.rest (a.takers ++ done_takers) s.list s.moved)));
       }

@@ -20,7 +20,7 @@ use Rattle.calls_core.specs.declared.history.Call.{Call}
 use Rattle.calls_core.specs.Lists.{Each, EachPair}
 use Rattle.calls_core.specs.Histories.{Takes, Suits, completion}
 use Rattle.calls_core.specs.Linearizations.{KeepsOrder, answered_one, answered_calls}
-use Rattle.calls_core.specs.Calls.{IsCallOf, AreCallsOf}
+use Rattle.calls_core.specs.Calls.{IsCallOf}
 use Rattle.calls_core.proofs.Lists.{each_weaker, each_append, all_from_each}
 use Rattle.calls_core.proofs.Filters.{each_from_all}
 use Rattle.calls_core.proofs.Counting.{count_cons, count_append, count_moved, count_none, one_yes}
@@ -49,7 +49,7 @@ use Rattle.calls_buffers.proofs.PlansTelling.{puts_from, takes_from, asks_from, 
 -- PENDING CALLS THAT TAKE EFFECT
 
 module _ (t : ℕ) (answer : PendingCall → Option Reply) where
-  each_answered : (Q : PendingCall → Type 0) (F : Call → Type 0)
+  pub each_answered : (Q : PendingCall → Type 0) (F : Call → Type 0)
       → ((o : PendingCall) (x : Reply) → Q o → answer o ≡ Some x → F (completion t x o))
       → (os : List PendingCall) → Each Q os → Each F (answered_calls t answer os)
   each_answered Q F f [] h = tt
@@ -94,7 +94,7 @@ answered_at t answer xs i (o ∷ os) h =
     (let next : i + 1 + k ≡ i + suc k = omega arith in
     ap (λ j. get_or xs j None) next ∙ h (suc k) (omega arith))))
 
-answered_all : (t : ℕ) (answer : PendingCall → Option Reply) (os : List PendingCall)
+pub answered_all : (t : ℕ) (answer : PendingCall → Option Reply) (os : List PendingCall)
     → answered_from t (map answer os) 0 os ≡ answered_calls t answer os
 answered_all t answer os = answered_at t answer (map answer os) 0 os (λ k lt.
     (let same : 0 + k ≡ k = omega arith in ap (λ j. get_or (map answer os) j None) same))
@@ -235,7 +235,7 @@ takes_own w = takes_from w.item w.take_first
 -- A HISTORY WHOSE ITEMS HAVE RANKS
 
 module _ (n end : ℕ) (done : List Call) (pending : List PendingCall) (order : List Window)
-    (puts takes : Places) (calls : AreCallsOf (Buffer n) done pending end)
+    (puts takes : Places) (calls : Each (IsCallOf (Buffer n) end) done)
     (with_take : AreTold done pending end order) (pairs : EachPair MayPrecede order)
     (free : HaveRoom n order) (room : 0 < n) (plan : IsPlan n order puts takes) where
   abbrev m : ℕ
@@ -279,7 +279,7 @@ module _ (n end : ℕ) (done : List Call) (pending : List PendingCall) (order : 
 
   call_of : (c : Call) → Contains done c → IsCallOf (Buffer n) end c
   call_of c h = All-contains (IsCallOf (Buffer n) end) done c
-      (all_from_each (IsCallOf (Buffer n) end) done calls.completed) h
+      (all_from_each (IsCallOf (Buffer n) end) done calls) h
 
   put_spans : (k : ℕ) → k < m → (window_at order k).put_first ≤ (window_at order k).put_last
   put_spans k lt =

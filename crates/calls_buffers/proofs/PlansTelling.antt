@@ -9,13 +9,12 @@ use Rattle.std.proofs.lemmas.Bool.{cases_lt, eq-eqb, eqb-true, ne_eqb, and_right
 use Rattle.std.proofs.lemmas.List.{get_or_default}
 use Rattle.std.proofs.lemmas.List.Elements.{All-contains}
 use Rattle.std.proofs.lemmas.List.Sorted.{All-permutation, Contains-permutation}
-use Rattle.calls_core.specs.declared.history.Kind.TheVariants.{Buffer}
 use Rattle.calls_core.specs.declared.history.Op.TheVariants.{Produce, Consume}
 use Rattle.calls_core.specs.declared.history.Reply.TheVariants.{Done, Number}
 use Rattle.calls_core.specs.declared.history.PendingCall.{PendingCall}
 use Rattle.calls_core.specs.declared.history.Call.{Call}
 use Rattle.calls_core.specs.Lists.{Each, EachPair}
-use Rattle.calls_core.specs.Calls.{Earlier, AreCallsOf}
+use Rattle.calls_core.specs.Calls.{Earlier}
 use Rattle.calls_core.proofs.Lists.{each_weaker, each_pair_weaker, all_from_each}
 use Rattle.calls_core.proofs.Lists.{all_pairs_from_each}
 use Rattle.calls_core.proofs.Filters.{each_from_all}
@@ -247,8 +246,8 @@ module _ (done : List Call) (pending : List PendingCall) (end : ℕ) (ws order :
 
 -- ITEMS THAT MAY COME AGAIN
 
-module _ (n : ℕ) (done : List Call) (pending : List PendingCall) (end : ℕ) (order : List Window)
-    (calls : AreCallsOf (Buffer n) done pending end) (invoked : AreInvokedApart done pending)
+module _ (done : List Call) (pending : List PendingCall) (end : ℕ) (order : List Window)
+    (earlier : EachPair Earlier pending) (invoked : AreInvokedApart done pending)
     (are : AreSpans done pending end order) where
   call_from : (v p : ℕ) (c : Call) → puts_from v p c ≡ true → c.first ≡ p
   call_from v p c e = eqb-true c.first p (and_parts (is_put (item v) c) (c.first == p) e).1
@@ -261,7 +260,7 @@ module _ (n : ℕ) (done : List Call) (pending : List PendingCall) (end : ℕ) (
   few_asked v p = few_at (λ (o : PendingCall). o.first) (asks_from v p) p
       (λ o e. eqb-true o.first p (and_parts (produces (item v) o.op) (o.first == p) e).1) pending
       (each_pair_weaker Earlier (λ x y. x.first ≡ y.first → ⊥) (λ x y less same. omega arith)
-      pending calls.rises)
+      pending earlier)
 
   none_asked : (v p : ℕ) → 0 < count_by (puts_from v p) done
       → count_by (asks_from v p) pending ≡ 0

@@ -1,11 +1,12 @@
 -- Turns of putting items in, taken by produces.
-use Rattle.std.proofs.Common.{◌≡◌, ℕ, zero, suc, ◌+◌, ◌-◌, ◌<◌, ◌≤◌, ◌==◌, inl, inr, true, false}
-use Rattle.std.proofs.Common.{cond, Option, Some, None, List, [], ◌∷◌, ◌++◌, length, drop, get_or}
+use Rattle.std.proofs.Common.{◌≡◌, ℕ, zero, suc, ◌+◌, ◌-◌, ◌<◌, ◌≤◌, ◌==◌, inl, inr, min, true}
+use Rattle.std.proofs.Common.{false, cond, Option, Some, None, List, [], ◌∷◌, ◌++◌, length, drop, get_or}
 use Rattle.std.proofs.Common.{refl, ap, sym, ◌∙◌, subst, arith, Bool, count_by, slice_get, reverse}
 use Rattle.std.specs.List.{Contains}
 use Rattle.std.specs.List.Sorted.{IsPermutation}
 use Rattle.std.proofs.lemmas.Bool.{cases_lt, le-leb, eq-eqb, eqb-true, ne_eqb}
-use Rattle.std.proofs.lemmas.Option.{slice_get_within, get_or_from_slice_get}
+use Rattle.std.proofs.lemmas.Option.{slice_get_within, get_or_from_slice_get, same_Some}
+use Rattle.std.proofs.lemmas.List.{get_or_default}
 use Rattle.std.proofs.lemmas.List.Elements.{Contains-append_left, Contains-append_right}
 use Rattle.std.proofs.lemmas.List.Elements.{Contains-append_cases}
 use Rattle.std.proofs.lemmas.List.Sorted.{All-permutation, Contains-permutation}
@@ -29,7 +30,7 @@ use Rattle.calls_turns.specs.declared.turn.Taker.{Taker}
 use Rattle.calls_turns.specs.declared.turn.Step.{Step}
 use Rattle.calls_turns.specs.declared.turn.Clash.{Clash}
 use Rattle.calls_turns.specs.Turns.{MayTake, AreTakenBy, IsTaking}
-use Rattle.calls_turns.specs.Steps.{Refute, IsClash, last_at}
+use Rattle.calls_turns.specs.Steps.{Refute}
 use Rattle.calls_buffers.specs.declared.accesses.Access.{Access}
 use Rattle.calls_buffers.specs.declared.windows.Window.{Window}
 use Rattle.calls_buffers.specs.declared.fault.Flow.TheVariants.{In}
@@ -42,9 +43,10 @@ use Rattle.calls_buffers.specs.Accesses.{put_item, taken_item}
 use Rattle.calls_buffers.specs.Accesses.{access_of, accesses, asked_of, asked, no_access}
 use Rattle.calls_buffers.specs.Accesses.{produced_item}
 use Rattle.calls_buffers.specs.kept.Pairs.{with_take}
-use Rattle.calls_buffers.specs.kept.Windows.{in_by, out_from, MayPrecede, HaveRoom, AreRanked}
+use Rattle.calls_buffers.specs.kept.Windows.{in_by, out_from, MayPrecede, HaveRoom}
 use Rattle.calls_buffers.specs.Accesses.{AreWithin}
-use Rattle.calls_buffers.specs.kept.Spans.{AreInvokedApart, IsSpan, HasPut, HasTake, AreSpans}
+use Rattle.calls_buffers.specs.kept.Spans.{AreInvokedApart, IsSpan, HasPut, HasTake}
+use Rattle.calls_buffers.specs.kept.Settling.{IsGiven, AreGiven}
 use Rattle.calls_buffers.specs.kept.Puttings.{put_window, put_windows}
 use Rattle.calls_buffers.proofs.Asking.{count_some}
 use Rattle.calls_buffers.proofs.AreWindows.{access_of_call, put_of, take_of, each_contains, one_of}
@@ -101,16 +103,16 @@ have_room n P f i (x ∷ ws) h = (
 -- TAKERS
 
 abbrev no_taker : Taker
-no_taker = record { call = 0; item = 0; from = 0; by = 0 }
+no_taker = record { call = 0; item = None; from = 0; by = 0 }
 
 abbrev taker_of : ℕ → Access → Taker
-taker_of i a = record { call = i; item = a.item; from = a.first; by = a.last }
+taker_of i a = record { call = i; item = Some a.item; from = a.first; by = a.last }
 
 -- this taker is one of the accesses
 record IsTakerOf (list : List Access) (x : Taker) : Type 0 where
   access : Access
   at : slice_get list x.call ≡ Some access
-  item : access.item ≡ x.item
+  item : x.item ≡ Some access.item
   first : access.first ≡ x.from
   last : access.last ≡ x.by
 
@@ -132,7 +134,7 @@ takers_are all i (a ∷ list) h = (
 record HasTaker (xs : List Taker) (a : Access) : Type 0 where
   taker : Taker
   known : Contains xs taker
-  item : taker.item ≡ a.item
+  item : taker.item ≡ Some a.item
   from : taker.from ≡ a.first
   by : taker.by ≡ a.last
 
@@ -142,7 +144,7 @@ has_taker i [] a h = absurd (nothing a h)
 has_taker i (b ∷ list) a (zero, lt, e) = record {
   taker = taker_of i b;
   known = (zero, omega arith, refl);
-  item = ap (λ (y : Access). y.item) e;
+  item = ap (λ (y : Access). Some y.item) e;
   from = ap (λ (y : Access). y.first) e;
   by = ap (λ (y : Access). y.last) e;
 }
@@ -365,7 +367,7 @@ module _ (n end : ℕ) (done : List Call) (pending : List PendingCall) (takes : 
       ) in
       let times = taken_within t known in
       record {
-        is_span = span p t listed known (own.item ∙ m.item ∙ sym item)
+        is_span = span p t listed known (m.item p.item own.item ∙ sym item)
             (omega (arith, own.first, m.from, m.turn_by, by));
         put = omega (arith, own.first, m.from);
         put_by = omega (arith, own.last, m.by);
@@ -406,20 +408,21 @@ module _ (n end : ℕ) (done : List Call) (pending : List PendingCall) (takes : 
       )
 
   has_put : (k : ℕ) (ts : List Access) (xs : List Taker) → Each (IsTakerOf puts) xs
-      → AreTakenBy moment end k (putting_turns n takes k ts) xs → (x : Taker) → Contains xs x
-      → HasPut (put_windows puts ts xs) x.item x.from
-  has_put k ts [] own taken x h = absurd (nothing x h)
-  has_put k [] (y ∷ xs) own taken x h = absurd taken
-  has_put k (t ∷ ts) (y ∷ xs) own taken x (zero, lt, e) =
-      subst (λ o. HasPut (put_window t o ++ put_windows puts ts xs) x.item x.from) (sym own.0.at)
+      → AreTakenBy moment end k (putting_turns n takes k ts) xs → (x : Taker) (v : ℕ)
+      → x.item ≡ Some v → Contains xs x → HasPut (put_windows puts ts xs) v x.from
+  has_put k ts [] own taken x v is h = absurd (nothing x h)
+  has_put k [] (y ∷ xs) own taken x v is h = absurd taken
+  has_put k (t ∷ ts) (y ∷ xs) own taken x v is (zero, lt, e) =
+      subst (λ o. HasPut (put_window t o ++ put_windows puts ts xs) v x.from) (sym own.0.at)
       (record {
         window = with_take own.0.access t;
         known = (zero, omega arith, refl);
-        is = own.0.item ∙ ap (λ (z : Taker). z.item) e;
+        is = same_Some own.0.access.item v
+            (sym own.0.item ∙ ap (λ (z : Taker). z.item) e ∙ is);
         at = own.0.first ∙ ap (λ (z : Taker). z.from) e;
       })
-  has_put k (t ∷ ts) (y ∷ xs) own taken x (suc j, lt, e) =
-      let r = has_put (k + 1) ts xs own.1 taken.1 x
+  has_put k (t ∷ ts) (y ∷ xs) own taken x v is (suc j, lt, e) =
+      let r = has_put (k + 1) ts xs own.1 taken.1 x v is
       (j, (let l : j < length xs = omega arith in l), e) in
       record {
         window = r.window;
@@ -440,7 +443,7 @@ module _ (n end : ℕ) (done : List Call) (pending : List PendingCall) (takes : 
       (sym own.0.at) (record {
         window = with_take own.0.access s;
         known = (zero, omega arith, refl);
-        is = own.0.item ∙ taken.0.item ∙ ap (λ (z : Access). z.item) e;
+        is = taken.0.item own.0.access.item own.0.item ∙ ap (λ (z : Access). z.item) e;
         at = ap (λ (z : Access). z.first) e;
       })
   has_take k (s ∷ ts) (y ∷ xs) own taken early t (suc j, lt, e) =
@@ -517,6 +520,15 @@ module _ (n end : ℕ) (done : List Call) (pending : List PendingCall) (takes : 
         all_pairs_from_each (λ (a b : Taker). a.from ≡ b.from → ⊥) order distinct i k no_taker lt
         s.taker_within (r.taker ∙ e ∙ sym s.taker)
 
+    -- none is kept
+    kept_row : (i k : ℕ) (x y : Window) → i < k → IsRow i x → IsRow k y → x.take_first ≡ end
+        → y.take_first ≡ end
+    kept_row i k x y lt r s e =
+        let t = get_or takes i no_access in
+        let own = taken_within t
+        (i, r.take_within, get_or_default takes i t no_access r.take_within) in
+        absurd (omega (arith, own.early, r.take_last, r.lasts, e))
+
     takes_row : (i k : ℕ) (x y : Window) → i < k → IsRow i x → IsRow k y
         → x.take_first ≡ y.take_first → x.take_first ≡ end
     takes_row i k x y lt r s e =
@@ -568,10 +580,10 @@ module _ (n end : ℕ) (done : List Call) (pending : List PendingCall) (takes : 
         elim (Contains-append_cases order h.rest x.taker (Contains-permutation (takers_of 0 whole)
         (order ++ h.rest) x.taker h.all x.known)) [
           | inl here ↦ (let w = has_put n end done pending takes order h.moment within moved 0 takes
-              order own h.taken x.taker here in record {
+              order own h.taken x.taker r.access.item x.item here in record {
                 window = w.window;
                 known = w.known;
-                is = w.is ∙ x.item ∙ r.item;
+                is = w.is ∙ r.item;
                 at = w.at ∙ x.from ∙ r.first;
               })
           | inr there ↦ absurd (omega (
@@ -604,9 +616,25 @@ module _ (n end : ℕ) (done : List Call) (pending : List PendingCall) (takes : 
     abbrev Row : ℕ → Window → Type 0
     Row = IsRow n end done pending takes order h.moment within moved
 
-    pub are_spans : AreSpans done pending end ws
-    are_spans = record {
-      each = each_from_none Row (IsSpan done pending end) (λ i x r. r.is_span) 0 ws all_rows;
+    given : (w : Window) → IsSpan done pending end w → IsGiven done pending end w
+    given w p = record {
+      put = p.put;
+      take = elim p.take [
+        | inl q ↦ inl q
+        | inr q ↦ inr (inr (record {
+          first = q.first;
+          last = q.last;
+          put = (let some : min w.put_last w.take_last < end = p.some in
+              omega (arith, some, q.last));
+        }))
+      ];
+      first = p.first;
+      follows = p.follows;
+    }
+
+    pub are_given : AreGiven n done pending end ws
+    are_given = record {
+      each = each_from_none Row (IsGiven done pending end) (λ i x r. given x r.is_span) 0 ws all_rows;
       puts = put_has;
       takes = take_has;
       puts_apart = each_from_pairs Row (λ (x y : Window). x.put_first ≡ y.put_first → ⊥)
@@ -616,30 +644,29 @@ module _ (n end : ℕ) (done : List Call) (pending : List PendingCall) (takes : 
           (λ (x y : Window). x.take_first ≡ y.take_first → x.take_first ≡ end)
           (takes_row n end done pending takes order h.moment within moved h.rises apart distinct) 0 ws
           all_rows;
-    }
-
-    pub are_ranked : AreRanked n ws ws
-    are_ranked = record {
-      all = IsPermutation-refl ws;
-      pairs = each_from_pairs Row MayPrecede
-          (may_precede n end done pending takes order h.moment within moved h.rises apart distinct) 0
-          ws all_rows;
-      room = have_room n Row
-          (room_row n end done pending takes order h.moment within moved h.rises apart distinct) 0 ws
+      kept_last = each_from_pairs Row (λ (x y : Window). x.take_first ≡ end → y.take_first ≡ end)
+          (kept_row n end done pending takes order h.moment within moved h.rises apart distinct) 0 ws
           all_rows;
+      ranked = record {
+        all = IsPermutation-refl ws;
+        pairs = each_from_pairs Row MayPrecede
+            (may_precede n end done pending takes order h.moment within moved h.rises apart distinct)
+            0 ws all_rows;
+        room = have_room n Row
+            (room_row n end done pending takes order h.moment within moved h.rises apart distinct) 0
+            ws all_rows;
+      };
     }
 
 -- A FAULT
 
 pub outrun : (n end : ℕ) (done : List Call) (pending : List PendingCall) (takes : List Access)
-    (steps : List Step) (turn : ℕ) (clash : Clash) → AreCallsOf (Buffer n) done pending end
+    (steps : List Step) (clash : Clash) → AreCallsOf (Buffer n) done pending end
     → IsPermutation (takes_of done) takes → AreApart takes
     → all_puts any_item done pending ≤ count_by (is_take any_item) done
     → Refute end (putting_turns n takes 0 takes) (takers_of 0 (puts_of end done pending))
-    (reverse steps) turn
-    → IsClash (putting_turns n takes 0 takes) (takers_of 0 (puts_of end done pending))
-    (last_at (reverse steps)) turn clash → FromOutrun n done pending In steps turn clash
-outrun n end done pending takes steps turn clash calls moved apart few refuted clashes = record {
+    (reverse steps) clash → FromOutrun n done pending In steps clash
+outrun n end done pending takes steps clash calls moved apart few refuted = record {
   end = end;
   within = within_calls (Buffer n) done pending end calls;
   turns = putting_turns n takes 0 takes;
@@ -653,5 +680,4 @@ outrun n end done pending takes steps turn clash calls moved apart few refuted c
     few = few;
   };
   refuted = refuted;
-  clashes = clashes;
 }

@@ -126,7 +126,7 @@ module _ (n end : ℕ) (all : List Access) where
           u.moment,
           u.rises,
           record {
-            item = h.0.item ∙ head;
+            item = λ v e. h.0.item v e ∙ head;
             turn_from = subst (λ zs. first_before n zs k ≤ u.moment) (sym is) room;
             turn_by = own;
             from = omega (arith, h.0.from, p.first, u.first);

@@ -267,12 +267,12 @@ module _ (n t : ℕ) (done : List Call) (pending : List PendingCall) (cs : List 
       let r = have_ranks n t done pending cs l h s.end s.jobs s.are in
       no_ranks n s.jobs (reverse bounds.items) (most n t done pending cs l h s.end s.jobs s.are)
       (rank n t done pending cs l h s.end s.jobs s.are) s.refuted r
-  no_order (Outrun Out steps turn clash) s =
+  no_order (Outrun Out steps clash) s =
       let r = outrun_out n t done pending cs l h s.end s.within s.turns s.takers s.are in
-      no_taking s.end s.turns s.takers r.0 (reverse steps.items) turn s.refuted r.1
-  no_order (Outrun In steps turn clash) s =
+      no_taking s.end s.turns s.takers r.0 (reverse steps.items) clash s.refuted r.1
+  no_order (Outrun In steps clash) s =
       let r = outrun_in n t done pending cs l h s.end s.within s.turns s.takers s.are in
-      no_taking s.end s.turns s.takers r.0 (reverse steps.items) turn s.refuted r.1
+      no_taking s.end s.turns s.takers r.0 (reverse steps.items) clash s.refuted r.1
 
 pub fault_leaves_no_order : (n : ℕ) (past : List Event) (f : Fault) (t : ℕ) (cs : List Call)
     → IsHistoryOf (Buffer n) past → clock past ≤ t → Shows n past f

@@ -2,7 +2,7 @@
 -- takes the turns.
 use Rattle.std.proofs.Common.{◌≡◌, ℕ, zero, suc, ◌+◌, ◌<◌, ◌≤◌, ◌⊎◌, inl, inr, List, [], ◌∷◌, ◌++◌}
 use Rattle.std.proofs.Common.{length, map, drop, Some, None, refl, ap, sym, ◌∙◌, subst, arith}
-use Rattle.std.proofs.Common.{append_assoc, append-nil, length-append, count_by}
+use Rattle.std.proofs.Common.{append_assoc, length-append}
 use Rattle.std.specs.List.Sorted.{IsPermutation}
 use Rattle.std.proofs.lemmas.List.{map-append, length-map}
 use Rattle.std.proofs.lemmas.List.Sorted.{IsPermutation-sym, IsPermutation-trans}
@@ -10,7 +10,7 @@ use Rattle.calls_core.specs.declared.history.Kind.TheVariants.{Buffer}
 use Rattle.calls_core.specs.declared.history.PendingCall.{PendingCall}
 use Rattle.calls_core.specs.declared.history.Call.{Call}
 use Rattle.calls_core.specs.Lists.{Each}
-use Rattle.calls_core.specs.Linearizations.{IsLegalHistory, initial, IsLinearOrder, answered_calls}
+use Rattle.calls_core.specs.Linearizations.{IsLegalHistory, initial, IsLinearOrder}
 use Rattle.calls_core.specs.Calls.{AreCallsOf}
 use Rattle.calls_core.proofs.Lists.{each_weaker, each_append}
 use Rattle.calls_turns.specs.declared.turn.Turn.{Turn}
@@ -18,19 +18,17 @@ use Rattle.calls_turns.specs.declared.turn.Taker.{Taker}
 use Rattle.calls_turns.specs.Turns.{IsTaking}
 use Rattle.calls_buffers.specs.declared.accesses.Access.{Access}
 use Rattle.calls_buffers.specs.Queues.{IsQueueRun, items_after}
-use Rattle.calls_buffers.specs.Counts.{any_item, is_consume, is_take}
-use Rattle.calls_buffers.specs.Turns.{takers_of, takes_of, last_or, taking_turns}
+use Rattle.calls_buffers.specs.Turns.{last_or, taking_turns}
 use Rattle.calls_buffers.specs.Turns.{AreTaken}
 use Rattle.calls_buffers.specs.Accesses.{put_item, taken_item}
 use Rattle.calls_buffers.specs.Accesses.{AreWithin}
-use Rattle.calls_buffers.proofs.Alongside.{Both, both_moved, joined, one_order}
-use Rattle.calls_buffers.proofs.Asking.{take_asked}
+use Rattle.calls_buffers.proofs.Alongside.{Both, joined, one_order}
 use Rattle.calls_buffers.proofs.Matched.{Match, Matches, accesses_later, accesses_keep}
-use Rattle.calls_buffers.proofs.Matched.{IsOpen, open_keep, item_of, IsTakerOf, are_takers}
-use Rattle.calls_buffers.proofs.Matched.{times, puts, takes}
+use Rattle.calls_buffers.proofs.Matched.{IsOpen, open_keep, item_of, IsTakerOf}
+use Rattle.calls_buffers.proofs.Matched.{times, puts, takers_in}
 use Rattle.calls_buffers.proofs.Moments.{AreTakenFrom, from_earlier, moment, moments_rise, taken_at}
 use Rattle.calls_buffers.proofs.Steps.{Puts, Takes, Stays, step, Times, Next, next}
-use Rattle.calls_buffers.proofs.Tallies.{queue, answered_few}
+use Rattle.calls_buffers.proofs.Tallies.{queue}
 
 -- WHEN A TURN IS DUE
 
@@ -174,7 +172,7 @@ module _ (n end : ℕ) (rest : List Access) (later : Each (IsOpen end) rest) whe
           u.moment,
           u.rises,
           record {
-            item = h.0.item ∙ t.item ∙ sym head;
+            item = λ v e. h.0.item v e ∙ t.item ∙ sym head;
             turn_from = omega (arith, put.0, u.rises);
             turn_by = late u.moment end n (q ∷ inside) (joined ps ++ rest) fits yet u.times.early;
             from = omega (arith, h.0.from, t.first, u.first);
@@ -225,31 +223,18 @@ module _ (n t : ℕ) (done : List Call) (pending : List PendingCall) (cs : List 
     (l : IsLinearOrder (IsLegalHistory (initial (Some (Buffer n)))) done pending t cs)
     (h : AreCallsOf (Buffer n) done pending t) (end : ℕ) (within : AreWithin end done pending)
     (turns : List Turn) (takers : List Taker) (are : AreTaken n end done pending turns takers) where
-  abbrev answered : List Call
-  answered = answered_calls t l.answer pending
-
-  none : count_by (is_take any_item) answered ≡ 0
-  none = omega (
-    arith,
-    are.none,
-    answered_few t l.answer (is_take any_item) (λ (o : PendingCall). is_consume o.op)
-        (λ o x e. take_asked any_item o.op x e) pending,
-  )
-
   pub outrun_out : (order : List Taker) × IsTaking end turns takers order
   outrun_out =
       let p = puts n t done pending cs l h end within in
-      let q = takes n t done pending cs l h end within none in
+      let q = takers_in n t done pending cs l h end within in
       let all : Times end 0 cs = times n t done pending cs l h end within in
       let listed : List Access = joined p.lists ++ p.rest in
       let same : are.puts ≡ listed = one_order (λ (a b : Access). a.last < b.first) listed are.puts
       (IsPermutation-trans _ _ _ (IsPermutation-sym _ _ p.all) are.all)
       (accesses_keep put_item end p.rest cs p.lists p.are all.order all.within p.left
       (open_keep end p.rest p.left)) are.apart in
-      let order = both_moved IsTakerOf (takes_of done) (joined q.lists) q.all
-      (takers_of 0 (takes_of done)) (are_takers 0 (takes_of done)) in
-      let taken : AreTakenFrom end 0 (taking_turns n end listed) order.list =
-      each_goes n end p.rest p.left cs 0 [] [] p.lists q.lists order.list (record {
+      let taken : AreTakenFrom end 0 (taking_turns n end listed) q.order =
+      each_goes n end p.rest p.left cs 0 [] [] p.lists q.lists q.order (record {
         run = queue n t done pending cs l h;
         fits = omega arith;
         hold = refl;
@@ -257,22 +242,20 @@ module _ (n t : ℕ) (done : List Call) (pending : List PendingCall) (cs : List 
         times = all;
         puts = p.are;
         takes = q.are;
-        takers = order.both;
+        takers = q.both;
       }) in
-      let turned : AreTakenFrom end 0 turns order.list =
-      subst (λ ts. AreTakenFrom end 0 ts order.list)
+      let turned : AreTakenFrom end 0 turns q.order =
+      subst (λ ts. AreTakenFrom end 0 ts q.order)
       (sym (are.turns_are ∙ ap (taking_turns n end) same)) taken in
-      let at : ℕ → ℕ = moment end 0 turns order.list turned in (
-        order.list,
+      let at : ℕ → ℕ = moment end 0 turns q.order turned in (
+        q.order,
         record {
-          rest = [];
-          all = subst (λ xs. IsPermutation xs (order.list ++ [])) (sym are.takers_are)
-              (subst (IsPermutation (takers_of 0 (takes_of done))) (sym (append-nil order.list))
-              order.moved);
-          others = tt;
+          rest = q.rest;
+          all = subst (λ xs. IsPermutation xs (q.order ++ q.rest)) (sym are.takers_are) q.all;
+          others = q.left;
           moment = at;
-          rises = λ i k le lt. moments_rise end 0 turns order.list turned i k le;
-          taken = taken_at at 0 end 0 turns order.list turned
+          rises = λ i k le lt. moments_rise end 0 turns q.order turned i k le;
+          taken = taken_at at 0 end 0 turns q.order turned
               (λ i. let same : 0 + i ≡ i = omega arith in ap at same);
         },
       )

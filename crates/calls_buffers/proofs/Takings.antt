@@ -7,6 +7,7 @@ use Rattle.std.proofs.Math.Seq.{drop-cons}
 use Rattle.std.specs.List.{Contains}
 use Rattle.std.specs.List.Sorted.{IsPermutation}
 use Rattle.std.specs.Option.{unwrap_or}
+use Rattle.std.proofs.lemmas.Option.{none-some}
 use Rattle.std.proofs.lemmas.Bool.{cases_lt, eq-eqb, eqb-true, ltb-true, lt-ltb, le-ltb}
 use Rattle.std.proofs.lemmas.List.Elements.{Contains-append_left, Contains-append_right}
 use Rattle.std.proofs.lemmas.List.Elements.{Contains-append_cases}
@@ -20,7 +21,7 @@ use Rattle.calls_core.specs.declared.history.Reply.TheVariants.{Done, Number}
 use Rattle.calls_core.specs.declared.history.PendingCall.{PendingCall}
 use Rattle.calls_core.specs.declared.history.Call.{Call}
 use Rattle.calls_core.specs.Lists.{Each, EachFrom, EachPair}
-use Rattle.calls_core.specs.Calls.{AreCallsOf}
+use Rattle.calls_core.specs.Calls.{Earlier, AreCallsOf}
 use Rattle.calls_core.proofs.Lists.{each_weaker, each_append, each_left, each_pair_append}
 use Rattle.calls_core.proofs.Lists.{each_pair_left, all_from_each}
 use Rattle.calls_core.proofs.Filters.{each_from_all}
@@ -29,23 +30,24 @@ use Rattle.calls_turns.specs.declared.turn.Turn.{Turn}
 use Rattle.calls_turns.specs.declared.turn.Taker.{Taker}
 use Rattle.calls_turns.specs.Turns.{MayTake, AreTakenBy, IsTaking}
 use Rattle.calls_buffers.specs.declared.accesses.Place.{Place}
-use Rattle.calls_buffers.specs.declared.accesses.Place.TheVariants.{Completed}
+use Rattle.calls_buffers.specs.declared.accesses.Place.TheVariants.{Completed, Pending}
 use Rattle.calls_buffers.specs.declared.accesses.Access.{Access}
 use Rattle.calls_buffers.specs.declared.windows.Window.{Window}
+use Rattle.calls_buffers.specs.Counts.{is_consume}
 use Rattle.calls_buffers.specs.Jobs.{IsProduceOf, IsConsumeOf}
 use Rattle.calls_buffers.specs.Turns.{puts_of, takes_of, AreApart, takers_of, last_or}
-use Rattle.calls_buffers.specs.Turns.{taking_turns}
+use Rattle.calls_buffers.specs.Turns.{asker_of, askers_of, taking_turns}
 use Rattle.calls_buffers.specs.Accesses.{put_item, taken_item}
 use Rattle.calls_buffers.specs.Accesses.{access_of, accesses, asked}
 use Rattle.calls_buffers.specs.kept.Pairs.{with_take, without_take, window_of}
 use Rattle.calls_buffers.specs.kept.Windows.{IsCompletedPut, IsPendingPut}
-use Rattle.calls_buffers.specs.kept.Windows.{IsCompletedTake, AreRanked, MayPrecede}
+use Rattle.calls_buffers.specs.kept.Windows.{IsCompletedTake, MayPrecede}
 use Rattle.calls_buffers.specs.Accesses.{AreWithin}
 use Rattle.calls_buffers.specs.kept.Windows.{HaveRoom}
-use Rattle.calls_buffers.specs.kept.Spans.{AreInvokedApart, IsSpan, HasPut, HasTake}
-use Rattle.calls_buffers.specs.kept.Spans.{AreSpans}
-use Rattle.calls_buffers.specs.kept.Takings.{take_of, taken_windows}
-use Rattle.calls_buffers.proofs.Asking.{count_some}
+use Rattle.calls_buffers.specs.kept.Spans.{AreInvokedApart, HasPut, HasTake}
+use Rattle.calls_buffers.specs.kept.Settling.{IsPendingTake, IsGiven, AreGiven}
+use Rattle.calls_buffers.specs.kept.Takings.{take_by, take_of, taken_windows}
+use Rattle.calls_buffers.proofs.Asking.{count_some, consumes}
 use Rattle.calls_buffers.proofs.AreWindows.{IsAccess, access_known, IsAsked, asked_known}
 use Rattle.calls_buffers.proofs.AreWindows.{put_is, taken_is, each_contains, one_of}
 use Rattle.calls_buffers.proofs.JobsOf.{within_calls}
@@ -55,12 +57,6 @@ use Rattle.calls_buffers.proofs.Timing.{puts_differ}
 
 none : {X : Type 0} (y : X) → Contains [] y → ⊥
 none y (k, lt, e) = omega arith
-
-each_get : {X : Type 0} (P : X → Type 0) (xs : List X) (k : ℕ) (x : X) → Each P xs
-    → slice_get xs k ≡ Some x → P x
-each_get P [] k x h e = absurd (cc)
-each_get P (y ∷ xs) zero x h e = subst P (ap (λ o. unwrap_or o y) e) h.0
-each_get P (y ∷ xs) (suc k) x h e = each_get P xs k x h.1 e
 
 -- DIFFERENT NUMBERS
 
@@ -195,33 +191,30 @@ access_at f i (x ∷ cs) c v (suc k, lt, s) e =
 
 -- TAKERS
 
-pub record IsTakerOf (takes : List Access) (x : Taker) : Type 0 where
-  pub take : Access
-  pub at : slice_get takes x.call ≡ Some take
-  pub item : x.item ≡ take.item
-  pub from : x.from ≡ take.first
-  pub by : x.by ≡ take.last
+-- the consume by which a taker takes out item v
+record Takes (takes : List Access) (x : Taker) (v : ℕ) : Type 0 where
+  take : Access
+  at : take_by takes v x ≡ Some take
+  from : x.from ≡ take.first
+  by : x.by ≡ take.last
 
-takers_take : (whole : List Access) (i : ℕ) (takes : List Access)
-    → ((k : ℕ) (t : Access) → slice_get takes k ≡ Some t → slice_get whole (i + k) ≡ Some t)
-    → Each (IsTakerOf whole) (takers_of i takes)
-takers_take whole i [] h = tt
-takers_take whole i (a ∷ takes) h = (
-  record {
-    take = a;
-    at = (let same : i ≡ i + 0 = omega arith in ap (slice_get whole) same ∙ h 0 a refl);
-    item = refl;
-    from = refl;
-    by = refl;
-  },
-  takers_take whole (i + 1) takes (λ k t e. (let same : i + 1 + k ≡ i + suc k = omega arith in
-      ap (slice_get whole) same ∙ h (suc k) t e)),
-)
+-- the consume of a taker, completed or pending
+abbrev IsOf : List Call → List PendingCall → ℕ → Taker → Type 0
+IsOf done pending end x = (w : Window) → ((v : ℕ) → x.item ≡ Some v → v ≡ w.item)
+    → w.take_first ≡ x.from → w.take_last ≡ x.by
+    → IsCompletedTake done w ⊎ IsPendingTake pending end w
+
+record IsTaker (done : List Call) (pending : List PendingCall) (end : ℕ) (takes : List Access)
+    (x : Taker) : Type 0 where
+  takes_out : (v : ℕ) → Takes takes x v
+  is : IsOf done pending end x
+  lasts : x.from ≤ x.by
+  begun : x.from < end
 
 record HasTaker (list : List Taker) (a : Access) : Type 0 where
   taker : Taker
   known : Contains list taker
-  item : taker.item ≡ a.item
+  item : taker.item ≡ Some a.item
   from : taker.from ≡ a.first
   by : taker.by ≡ a.last
 
@@ -229,15 +222,15 @@ taker_for : (i : ℕ) (takes : List Access) (a : Access) → Contains takes a
     → HasTaker (takers_of i takes) a
 taker_for i [] a h = absurd (none a h)
 taker_for i (x ∷ takes) a (zero, lt, e) = record {
-  taker = record { call = i; item = x.item; from = x.first; by = x.last };
+  taker = record { call = i; item = Some x.item; from = x.first; by = x.last };
   known = (zero, omega arith, refl);
-  item = ap (λ (y : Access). y.item) e;
+  item = ap (λ (y : Access). Some y.item) e;
   from = ap (λ (y : Access). y.first) e;
   by = ap (λ (y : Access). y.last) e;
 }
 taker_for i (x ∷ takes) a (suc k, lt, e) =
     let r = taker_for (i + 1) takes a (k, (let l : k < length takes = omega arith in l), e) in
-    let first : Taker = record { call = i; item = x.item; from = x.first; by = x.last } in
+    let first : Taker = record { call = i; item = Some x.item; from = x.first; by = x.last } in
     record {
       taker = r.taker;
       known = Contains-append_right (first ∷ []) (takers_of (i + 1) takes) r.taker r.known;
@@ -259,6 +252,57 @@ takers_differ i (a ∷ takes) h = (
   each_taker (λ n. a.first ≡ n → ⊥) (i + 1) takes h.0,
   takers_differ (i + 1) takes h.1,
 )
+
+-- those of any item are not due before the end
+pub takers_due : (end i : ℕ) (list : List Access)
+    → Each (λ (x : Taker). x.item ≡ None → end ≤ x.by) (takers_of i list)
+takers_due end i [] = tt
+takers_due end i (a ∷ list) =
+    (λ e. absurd (none-some a.item (sym e)), takers_due end (i + 1) list)
+
+pub askers_due : (end i : ℕ) (os : List PendingCall)
+    → Each (λ (x : Taker). x.item ≡ None → end ≤ x.by) (askers_of end i os)
+askers_due end i [] = tt
+askers_due end i (o ∷ os) =
+    each_append (λ (x : Taker). x.item ≡ None → end ≤ x.by) (asker_of end i o (is_consume o.op))
+    (askers_of end (i + 1) os) (own (is_consume o.op)) (askers_due end (i + 1) os)
+  where
+    own : (b : Bool) → Each (λ (x : Taker). x.item ≡ None → end ≤ x.by) (asker_of end i o b)
+    own false = tt
+    own true = (λ e. omega arith, tt)
+
+each_asker : (P : ℕ → Type 0) (end i : ℕ) (os : List PendingCall)
+    → Each (λ (o : PendingCall). P o.first) os
+    → Each (λ (x : Taker). P x.from) (askers_of end i os)
+each_asker P end i [] h = tt
+each_asker P end i (o ∷ os) h =
+    each_append (λ (x : Taker). P x.from) (asker_of end i o (is_consume o.op))
+    (askers_of end (i + 1) os) (own (is_consume o.op)) (each_asker P end (i + 1) os h.1)
+  where
+    own : (b : Bool) → Each (λ (x : Taker). P x.from) (asker_of end i o b)
+    own false = tt
+    own true = (h.0, tt)
+
+askers_differ : (end i : ℕ) (os : List PendingCall) → EachPair Earlier os
+    → Differ (λ (x : Taker). x.from) (askers_of end i os)
+askers_differ end i [] h = tt
+askers_differ end i (o ∷ os) h =
+    each_pair_append (λ (x y : Taker). x.from ≡ y.from → ⊥) (asker_of end i o (is_consume o.op))
+    (askers_of end (i + 1) os) (alone (is_consume o.op)) (askers_differ end (i + 1) os h.1)
+    (across (is_consume o.op))
+  where
+    alone : (b : Bool) → EachPair (λ (x y : Taker). x.from ≡ y.from → ⊥) (asker_of end i o b)
+    alone false = tt
+    alone true = (tt, tt)
+
+    across : (b : Bool) → Each (λ (x : Taker). Each (λ (y : Taker). x.from ≡ y.from → ⊥)
+        (askers_of end (i + 1) os)) (asker_of end i o b)
+    across false = tt
+    across true = (
+      each_asker (λ m. o.first ≡ m → ⊥) end (i + 1) os (each_weaker (Earlier o)
+          (λ (p : PendingCall). o.first ≡ p.first → ⊥) (λ p lt e. omega (arith, lt, e)) os h.0),
+      tt,
+    )
 
 -- ALL WINDOWS, ALSO THAT OF A PENDING PRODUCE WHOSE ITEM IS NOT TAKEN
 
@@ -289,7 +333,7 @@ abbrev all_windows : ℕ → List Access → List Access → List Taker → List
 all_windows end takes [] order = []
 all_windows end takes (p ∷ puts) [] = full end p None ∷ all_windows end takes puts []
 all_windows end takes (p ∷ puts) (x ∷ order) =
-    full end p (slice_get takes x.call) ∷ all_windows end takes puts order
+    full end p (take_by takes p.item x) ∷ all_windows end takes puts order
 
 -- one of them may not be there, the last one
 abbrev Begin : List Window → List Window → Type 0
@@ -314,13 +358,13 @@ begin_all : (end : ℕ) (takes puts : List Access) (order : List Taker)
     → Begin (taken_windows end takes puts order) (all_windows end takes puts order)
 begin_all end takes [] order h apart = ([], refl)
 begin_all end takes (p ∷ []) [] h apart = last_window end p None
-begin_all end takes (p ∷ []) (x ∷ order) h apart = last_window end p (slice_get takes x.call)
+begin_all end takes (p ∷ []) (x ∷ order) h apart = last_window end p (take_by takes p.item x)
 begin_all end takes (p ∷ q ∷ puts) [] h apart =
     next_window end p None (taken_windows end takes (q ∷ puts) [])
     (all_windows end takes (q ∷ puts) []) (omega (arith, apart.0.0, h.1.0))
     (begin_all end takes (q ∷ puts) [] h.1 apart.1)
 begin_all end takes (p ∷ q ∷ puts) (x ∷ order) h apart =
-    next_window end p (slice_get takes x.call) (taken_windows end takes (q ∷ puts) order)
+    next_window end p (take_by takes p.item x) (taken_windows end takes (q ∷ puts) order)
     (all_windows end takes (q ∷ puts) order) (omega (arith, apart.0.0, h.1.0))
     (begin_all end takes (q ∷ puts) order h.1 apart.1)
 
@@ -392,16 +436,6 @@ record IsPut (done : List Call) (pending : List PendingCall) (end : ℕ) (p : Ac
   lasts : p.first ≤ p.last
   begun : p.first < end
 
-record IsTake (done : List Call) (end : ℕ) (t : Access) : Type 0 where
-  take : (w : Window) → w.item ≡ t.item → w.take_first ≡ t.first → w.take_last ≡ t.last
-      → IsCompletedTake done w
-  lasts : t.first ≤ t.last
-  ends : t.last < end
-
-record IsTaker (done : List Call) (end : ℕ) (takes : List Access) (x : Taker) : Type 0 where
-  taker : IsTakerOf takes x
-  is : IsTake done end taker.take
-
 module _ (n end : ℕ) (done : List Call) (pending : List PendingCall) (takes : List Access)
     (moment : ℕ → ℕ) where
   abbrev Taken : ℕ → List Access → List Taker → Type 0
@@ -411,7 +445,7 @@ module _ (n end : ℕ) (done : List Call) (pending : List PendingCall) (takes : 
   Puts puts = Each (IsPut done pending end) puts
 
   abbrev Takers : List Taker → Type 0
-  Takers order = Each (IsTaker done end takes) order
+  Takers order = Each (IsTaker done pending end takes) order
 
   module _ (m : ℕ) (time : ℕ → ℕ) (is : IsTime m end moment time) where
     all_timed_left : (k : ℕ) (puts : List Access) → Puts puts → m ≤ k
@@ -435,22 +469,14 @@ module _ (n end : ℕ) (done : List Call) (pending : List PendingCall) (takes : 
     all_timed k (p ∷ puts) [] taken ps xs e = all_timed_left k (p ∷ puts) ps (omega arith)
     all_timed k (p ∷ puts) (x ∷ order) taken ps xs e =
         let early = is.early k (omega arith) in
-        let given = xs.0.taker in
-        let first : taken_from end (slice_get takes x.call) ≡ given.take.first =
+        let given = xs.0.takes_out p.item in
+        let first : taken_from end (take_by takes p.item x) ≡ given.take.first =
         ap (taken_from end) given.at in
-        let last : taken_by end (slice_get takes x.call) ≡ given.take.last =
+        let last : taken_by end (take_by takes p.item x) ≡ given.take.last =
         ap (taken_by end) given.at in (
           record {
             put = omega (arith, ps.0.begun, early, taken.0.turn_from);
-            from = omega (
-              arith,
-              early,
-              first,
-              given.from,
-              taken.0.from,
-              xs.0.is.lasts,
-              xs.0.is.ends,
-            );
+            from = omega (arith, early, first, given.from, taken.0.from, xs.0.begun);
             until = omega (arith, early, last, given.by, taken.0.by);
             lasts = ps.0.lasts;
           },
@@ -488,16 +514,19 @@ module _ (n end : ℕ) (done : List Call) (pending : List PendingCall) (takes : 
 
   -- THEIR CALLS
 
-  left_span : (p : Access) → IsPut done pending end p
-      → Each (IsSpan done pending end) (window_of end p None)
-  left_span p h =
+  left_given : (p : Access) → IsPut done pending end p
+      → Each (IsGiven done pending end) (window_of end p None)
+  left_given p h =
       elim (nat_lt p.last end) as (λ b. nat_lt p.last end ≡ b
-      → Each (IsSpan done pending end) (cond b (without_take end p ∷ []) [])) [
+      → Each (IsGiven done pending end) (cond b (without_take end p ∷ []) [])) [
         | true ↦ λ q. (
           record {
             put = h.put (without_take end p) refl refl refl;
-            take = inr (record { first = refl; last = refl });
-            some = omega (arith, ltb-true p.last end q);
+            take = inr (inr (record {
+              first = refl;
+              last = refl;
+              put = ltb-true p.last end q;
+            }));
             first = h.begun;
             follows = omega (arith, h.begun);
           },
@@ -506,36 +535,73 @@ module _ (n end : ℕ) (done : List Call) (pending : List PendingCall) (takes : 
         | false ↦ λ q. tt
       ] refl
 
-  span_with_take : (k : ℕ) (p : Access) (x : Taker) (t : Turn) → t.item ≡ p.item → t.from ≡ p.first
-      → IsPut done pending end p → IsTaker done end takes x → MayTake (moment k) t x
-      → Each (IsSpan done pending end) (window_of end p (slice_get takes x.call))
-  span_with_take k p x t item from h g may =
-      let given = g.taker in
-      subst (λ o. Each (IsSpan done pending end) (window_of end p o)) (sym given.at) (
+  given_with_take : (k : ℕ) (p : Access) (x : Taker) (t : Turn) → t.item ≡ p.item
+      → t.from ≡ p.first → IsPut done pending end p → IsTaker done pending end takes x
+      → MayTake (moment k) t x
+      → Each (IsGiven done pending end) (window_of end p (take_by takes p.item x))
+  given_with_take k p x t item from h g may =
+      let given = g.takes_out p.item in
+      subst (λ o. Each (IsGiven done pending end) (window_of end p o)) (sym given.at) (
         record {
           put = h.put (with_take p given.take) refl refl refl;
-          take = inl (g.is.take (with_take p given.take)
-              (sym item ∙ sym may.item ∙ given.item) refl refl);
-          some = omega (arith, g.is.ends);
+          take = elim (g.is (with_take p given.take) (λ v e. may.item v e ∙ item) (sym given.from)
+              (sym given.by)) [ inl q ↦ inl q | inr q ↦ inr (inl q) ];
           first = h.begun;
           follows = omega (arith, from, may.turn_from, may.by, given.by);
         },
         tt,
       )
 
-  all_spans : (k : ℕ) (puts : List Access) (order : List Taker) → Taken k puts order
+  all_given : (k : ℕ) (puts : List Access) (order : List Taker) → Taken k puts order
       → Puts puts → Takers order
-      → Each (IsSpan done pending end) (taken_windows end takes puts order)
-  all_spans k [] order taken ps xs = tt
-  all_spans k (p ∷ puts) [] taken ps xs =
-      each_append (IsSpan done pending end) (window_of end p None)
-      (taken_windows end takes puts []) (left_span p ps.0)
-      (all_spans (k + 1) puts [] taken.1 ps.1 xs)
-  all_spans k (p ∷ puts) (x ∷ order) taken ps xs =
-      each_append (IsSpan done pending end) (window_of end p (slice_get takes x.call))
+      → Each (IsGiven done pending end) (taken_windows end takes puts order)
+  all_given k [] order taken ps xs = tt
+  all_given k (p ∷ puts) [] taken ps xs =
+      each_append (IsGiven done pending end) (window_of end p None)
+      (taken_windows end takes puts []) (left_given p ps.0)
+      (all_given (k + 1) puts [] taken.1 ps.1 xs)
+  all_given k (p ∷ puts) (x ∷ order) taken ps xs =
+      each_append (IsGiven done pending end) (window_of end p (take_by takes p.item x))
       (taken_windows end takes puts order)
-      (span_with_take k p x _ refl refl ps.0 xs.0 taken.0)
-      (all_spans (k + 1) puts order taken.1 ps.1 xs.1)
+      (given_with_take k p x _ refl refl ps.0 xs.0 taken.0)
+      (all_given (k + 1) puts order taken.1 ps.1 xs.1)
+
+  -- THOSE THAT ARE KEPT COME LAST
+
+  abbrev Last : Window → Window → Type 0
+  Last x y = x.take_first ≡ end → y.take_first ≡ end
+
+  kept_window : (p : Access) → Each (λ (w : Window). w.take_first ≡ end) (window_of end p None)
+  kept_window p =
+      elim (nat_lt p.last end) as (λ b. Each (λ (w : Window). w.take_first ≡ end)
+      (cond b (without_take end p ∷ []) [])) [ true ↦ (refl, tt) | false ↦ tt ]
+
+  kept_windows : (puts : List Access)
+      → Each (λ (w : Window). w.take_first ≡ end) (taken_windows end takes puts [])
+  kept_windows [] = tt
+  kept_windows (p ∷ puts) = each_append (λ (w : Window). w.take_first ≡ end)
+      (window_of end p None) (taken_windows end takes puts []) (kept_window p) (kept_windows puts)
+
+  all_kept : (ws : List Window) → Each (λ (w : Window). w.take_first ≡ end) ws → EachPair Last ws
+  all_kept [] h = tt
+  all_kept (w ∷ ws) h = (
+    each_weaker (λ (y : Window). y.take_first ≡ end) (Last w) (λ y e own. e) ws h.1,
+    all_kept ws h.1,
+  )
+
+  kept_last : (puts : List Access) (order : List Taker) → Takers order
+      → EachPair Last (taken_windows end takes puts order)
+  kept_last [] order xs = tt
+  kept_last (p ∷ puts) [] xs =
+      all_kept (taken_windows end takes (p ∷ puts) []) (kept_windows (p ∷ puts))
+  kept_last (p ∷ puts) (x ∷ order) xs =
+      let given = xs.0.takes_out p.item in
+      let rest = taken_windows end takes puts order in
+      subst (λ o. EachPair Last (window_of end p o ++ rest)) (sym given.at) (
+        each_contains (Last (with_take p given.take)) rest
+            (λ y k e. absurd (omega (arith, xs.0.begun, given.from, e))),
+        kept_last puts order xs.1,
+      )
 
   -- EACH CALL HAS ITS WINDOW
 
@@ -565,8 +631,8 @@ module _ (n end : ℕ) (done : List Call) (pending : List PendingCall) (takes : 
         at = r.at;
       }
   has_put (q ∷ puts) (x ∷ order) p (zero, l, e) lt = record {
-    window = full end q (slice_get takes x.call);
-    known = own_put q (slice_get takes x.call) (taken_windows end takes puts order)
+    window = full end q (take_by takes q.item x);
+    known = own_put q (take_by takes q.item x) (taken_windows end takes puts order)
         (subst (λ (a : Access). a.last < end) (sym e) lt);
     is = ap (λ (a : Access). a.item) e;
     at = ap (λ (a : Access). a.first) e;
@@ -575,30 +641,30 @@ module _ (n end : ℕ) (done : List Call) (pending : List PendingCall) (takes : 
       let r = has_put puts order p (k, (let b : k < length puts = omega arith in b), e) lt in
       record {
         window = r.window;
-        known = Contains-append_right (window_of end q (slice_get takes x.call))
+        known = Contains-append_right (window_of end q (take_by takes q.item x))
             (taken_windows end takes puts order) r.window r.known;
         is = r.is;
         at = r.at;
       }
 
   has_take : (k : ℕ) (puts : List Access) (order : List Taker) → Taken k puts order
-      → Takers order → (y : Taker) → Contains order y
-      → HasTake (taken_windows end takes puts order) y.item y.from
-  has_take k puts [] taken xs y h = absurd (none y h)
-  has_take k [] (x ∷ order) taken xs y h = absurd taken
-  has_take k (p ∷ puts) (x ∷ order) taken xs y (zero, l, e) =
-      let given = xs.0.taker in record {
+      → Takers order → (y : Taker) (v : ℕ) → y.item ≡ Some v → Contains order y
+      → HasTake (taken_windows end takes puts order) v y.from
+  has_take k puts [] taken xs y v own h = absurd (none y h)
+  has_take k [] (x ∷ order) taken xs y v own h = absurd taken
+  has_take k (p ∷ puts) (x ∷ order) taken xs y v own (zero, l, e) =
+      let given = xs.0.takes_out p.item in record {
         window = with_take p given.take;
         known = subst (λ o. Contains (window_of end p o ++ taken_windows end takes puts order)
             (with_take p given.take)) (sym given.at) (zero, omega arith, refl);
-        is = sym taken.0.item ∙ ap (λ (z : Taker). z.item) e;
+        is = sym (taken.0.item v (ap (λ (z : Taker). z.item) e ∙ own));
         at = sym given.from ∙ ap (λ (z : Taker). z.from) e;
       }
-  has_take k (p ∷ puts) (x ∷ order) taken xs y (suc j, l, e) =
-      let r = has_take (k + 1) puts order taken.1 xs.1 y
+  has_take k (p ∷ puts) (x ∷ order) taken xs y v own (suc j, l, e) =
+      let r = has_take (k + 1) puts order taken.1 xs.1 y v own
       (j, (let b : j < length order = omega arith in b), e) in record {
         window = r.window;
-        known = Contains-append_right (window_of end p (slice_get takes x.call))
+        known = Contains-append_right (window_of end p (take_by takes p.item x))
             (taken_windows end takes puts order) r.window r.known;
         is = r.is;
         at = r.at;
@@ -612,8 +678,8 @@ module _ (n end : ℕ) (done : List Call) (pending : List PendingCall) (takes : 
   each_taken P [] order q xs h = tt
   each_taken P (p ∷ puts) [] q xs h = (q, each_taken P puts [] q xs h)
   each_taken P (p ∷ puts) (x ∷ order) q xs h =
-      let given = xs.0.taker in
-      let same : x.from ≡ taken_from end (slice_get takes x.call) =
+      let given = xs.0.takes_out p.item in
+      let same : x.from ≡ taken_from end (take_by takes p.item x) =
       given.from ∙ sym (ap (taken_from end) given.at) in
       (subst P same h.0, each_taken P puts order q xs.1 h.1)
 
@@ -627,9 +693,9 @@ module _ (n end : ℕ) (done : List Call) (pending : List PendingCall) (takes : 
     takes_apart puts [] xs tt,
   )
   takes_apart (p ∷ puts) (x ∷ order) xs h =
-      let given = xs.0.taker in
-      let first = taken_from end (slice_get takes x.call) in
-      let same : x.from ≡ taken_from end (slice_get takes x.call) =
+      let given = xs.0.takes_out p.item in
+      let first = taken_from end (take_by takes p.item x) in
+      let same : x.from ≡ taken_from end (take_by takes p.item x) =
       given.from ∙ sym (ap (taken_from end) given.at) in (
         each_taken (λ v. first ≡ v → first ≡ end) puts order (λ e. e) xs.1
             (each_weaker (λ (y : Taker). x.from ≡ y.from → ⊥)
@@ -685,33 +751,83 @@ module _ (end : ℕ) (done : List Call) (pending : List PendingCall)
             begun = omega (arith, early, r.first);
           }
 
-  a_take : (t : Access) → Contains (takes_of done) t → IsTake done end t
-  a_take t h =
+  -- a completed consume takes its item
+  a_taker : (whole : List Access) (i : ℕ) (t : Access) → slice_get whole i ≡ Some t
+      → Contains (takes_of done) t → IsTaker done pending end whole
+      (record { call = i; item = Some t.item; from = t.first; by = t.last })
+  a_taker whole i t at h =
       let r = access_known taken_item 0 done t h in
       let known : Contains done r.call = (r.index, r.within, r.at r.call) in
       let is = taken_is t.item r.call.op r.call.reply r.is in
       let times = one_of (λ (c : Call). (c.first < c.last) × (c.last < end)) done r.call
       within.completed known in
       record {
-        take = λ w item first last. record {
+        takes_out = λ v. record { take = t; at = at; from = refl; by = refl };
+        is = λ w item first last. inl (record {
           call = r.call;
           consume = record {
             known = known;
             asks = is.0;
-            returns = is.1 ∙ ap Number (sym item);
+            returns = is.1 ∙ ap Number (item t.item refl);
           };
           first = r.first ∙ sym first;
           last = r.last ∙ sym last;
-        };
+        });
         lasts = omega (arith, times.0, r.first, r.last);
-        ends = omega (arith, times.1, r.last);
+        begun = omega (arith, times.0, times.1, r.first, r.last);
       }
+
+  all_takers : (whole : List Access) (i : ℕ) (takes : List Access)
+      → ((k : ℕ) (t : Access) → slice_get takes k ≡ Some t → slice_get whole (i + k) ≡ Some t)
+      → Each (Contains (takes_of done)) takes
+      → Each (IsTaker done pending end whole) (takers_of i takes)
+  all_takers whole i [] h known = tt
+  all_takers whole i (a ∷ takes) h known = (
+    a_taker whole i a (let same : i ≡ i + 0 = omega arith in
+        ap (slice_get whole) same ∙ h 0 a refl) known.0,
+    all_takers whole (i + 1) takes (λ k t e. (let same : i + 1 + k ≡ i + suc k = omega arith in
+        ap (slice_get whole) same ∙ h (suc k) t e)) known.1,
+  )
+
+  -- a pending one takes any item
+  an_asker : (whole : List Access) (i : ℕ) (o : PendingCall) → Contains pending o → (b : Bool)
+      → is_consume o.op ≡ b → Each (IsTaker done pending end whole) (asker_of end i o b)
+  an_asker whole i o known false e = tt
+  an_asker whole i o known true e =
+      let early = one_of (λ (p : PendingCall). p.first < end) pending o within.invoked known in (
+        record {
+          takes_out = λ v. record {
+            take = record { item = v; place = Pending i; first = o.first; last = end };
+            at = refl;
+            from = refl;
+            by = refl;
+          };
+          is = λ w item first last. inr (record {
+            call = o;
+            known = known;
+            asks = consumes o.op e;
+            first = sym first;
+            last = last;
+          });
+          lasts = omega (arith, early);
+          begun = early;
+        },
+        tt,
+      )
+
+  all_askers : (whole : List Access) (i : ℕ) (os : List PendingCall) → Each (Contains pending) os
+      → Each (IsTaker done pending end whole) (askers_of end i os)
+  all_askers whole i [] h = tt
+  all_askers whole i (o ∷ os) h =
+      each_append (IsTaker done pending end whole) (asker_of end i o (is_consume o.op))
+      (askers_of end (i + 1) os) (an_asker whole i o h.0 (is_consume o.op) refl)
+      (all_askers whole (i + 1) os h.1)
 
 -- ONE PRODUCE MORE
 
 head_window : (end : ℕ) (takes : List Access) (p : Access) (puts : List Access) (k : ℕ)
     (order : List Taker) → taken_windows end takes (p ∷ puts) (drop k order)
-    ≡ window_of end p (take_of takes (slice_get order k))
+    ≡ window_of end p (take_of takes p.item (slice_get order k))
     ++ taken_windows end takes puts (drop (suc k) order)
 head_window end takes p puts zero [] = refl
 head_window end takes p puts zero (x ∷ order) = refl
@@ -720,7 +836,8 @@ head_window end takes p puts (suc k) (x ∷ order) = head_window end takes p put
 
 pub taken_step : (end : ℕ) (takes puts : List Access) (order : List Taker) (k : ℕ) (d : Access)
     (base next more whole : List Window) → k < length puts
-    → more ≡ window_of end (get_or puts k d) (take_of takes (slice_get order k))
+    → more ≡ window_of end (get_or puts k d)
+    (take_of takes (get_or puts k d).item (slice_get order k))
     → next ≡ base ++ more
     → base ++ taken_windows end takes (drop k puts) (drop k order) ≡ whole
     → next ++ taken_windows end takes (drop (k + 1) puts) (drop (k + 1) order) ≡ whole
@@ -740,7 +857,8 @@ module _ (n end : ℕ) (done : List Call) (pending : List PendingCall) (puts : L
     (order : List Taker) (calls : AreCallsOf (Buffer n) done pending end)
     (different : AreInvokedApart done pending)
     (moved : IsPermutation (puts_of end done pending) puts) (apart : AreApart puts)
-    (taking : IsTaking end (taking_turns n end puts) (takers_of 0 (takes_of done)) order) where
+    (taking : IsTaking end (taking_turns n end puts)
+    (takers_of 0 (takes_of done) ++ askers_of end 0 pending) order) where
   abbrev takes : List Access
   takes = takes_of done
 
@@ -758,30 +876,40 @@ module _ (n end : ℕ) (done : List Call) (pending : List PendingCall) (puts : L
       (Contains-permutation puts (puts_of end done pending) p
       (IsPermutation-sym (puts_of end done pending) puts moved) h))
 
-  is_take : Each (IsTake done end) takes
-  is_take = each_contains (IsTake done end) takes (a_take end done pending within)
+  abbrev askers : List Taker
+  askers = askers_of end 0 pending
 
-  is_taker : Each (IsTaker done end takes) order
+  abbrev whole : List Taker
+  whole = takers_of 0 takes ++ askers
+
+  abbrev Is : Taker → Type 0
+  Is = IsTaker done pending end takes
+
+  is_taker : Each Is order
   is_taker =
-      let all_takers : Each (IsTakerOf takes) (takers_of 0 takes) =
-      takers_take takes 0 takes (λ k t e. (let same : 0 + k ≡ k = omega arith in
-      ap (slice_get takes) same ∙ e)) in
-      let moved_takers : Each (IsTakerOf takes) (order ++ taking.rest) =
-      each_from_all (IsTakerOf takes) (order ++ taking.rest)
-      (All-permutation (IsTakerOf takes) (takers_of 0 takes) (order ++ taking.rest) taking.all
-      (all_from_each (IsTakerOf takes) (takers_of 0 takes) all_takers)) in
-      each_weaker (IsTakerOf takes) (IsTaker done end takes) (λ x h. record {
-        taker = h;
-        is = each_get (IsTake done end) takes x.call h.take is_take h.at;
-      }) order (each_left (IsTakerOf takes) order taking.rest moved_takers)
+      let done_takers : Each Is (takers_of 0 takes) = all_takers end done pending within takes 0
+      takes (λ k t e. (let same : 0 + k ≡ k = omega arith in ap (slice_get takes) same ∙ e))
+      (each_contains (Contains takes) takes (λ t k. k)) in
+      let pending_takers : Each Is askers = all_askers end done pending within takes 0 pending
+      (each_contains (Contains pending) pending (λ o k. k)) in
+      each_left Is order taking.rest (each_from_all Is (order ++ taking.rest) (All-permutation Is
+      whole (order ++ taking.rest) taking.all (all_from_each Is whole (each_append Is
+      (takers_of 0 takes) askers done_takers pending_takers))))
 
   differ : Differ (λ (x : Taker). x.from) order
   differ =
-      let one = accesses_differ taken_item 0 done different.completed in
-      let two = takers_differ 0 takes one in
+      let one = takers_differ 0 takes (accesses_differ taken_item 0 done different.completed) in
+      let two = askers_differ end 0 pending calls.rises in
+      let across : Each (λ (x : Taker). Each (λ (y : Taker). x.from ≡ y.from → ⊥) askers)
+      (takers_of 0 takes) = each_taker (λ m. Each (λ (y : Taker). m ≡ y.from → ⊥) askers) 0 takes
+      (each_access (λ m. Each (λ (y : Taker). m ≡ y.from → ⊥) askers) taken_item 0 done
+      (each_weaker (λ (c : Call). Each (λ (o : PendingCall). c.first ≡ o.first → ⊥) pending)
+      (λ (c : Call). Each (λ (y : Taker). c.first ≡ y.from → ⊥) askers)
+      (λ c h. each_asker (λ m. c.first ≡ m → ⊥) end 0 pending h) done different.across)) in
       each_pair_left (λ (x y : Taker). x.from ≡ y.from → ⊥) order taking.rest
-      (differ_moved (λ (x : Taker). x.from) (takers_of 0 takes) (order ++ taking.rest) taking.all
-      two)
+      (differ_moved (λ (x : Taker). x.from) whole (order ++ taking.rest) taking.all
+      (each_pair_append (λ (x y : Taker). x.from ≡ y.from → ⊥) (takers_of 0 takes) askers one two
+      across))
 
   begin : Begin ws all
   begin = begin_all end takes puts order (each_weaker (IsPut done pending end)
@@ -836,14 +964,14 @@ module _ (n end : ℕ) (done : List Call) (pending : List PendingCall) (puts : L
       let times = one_of (λ (x : Call). (x.first < x.last) × (x.last < end)) done c
       within.completed h.known in
       let x = taker_for 0 takes r.access r.known in
-      let known = Contains-permutation (takers_of 0 takes) (order ++ taking.rest) x.taker
-      taking.all x.known in
+      let known = Contains-permutation whole (order ++ taking.rest) x.taker taking.all
+      (Contains-append_left (takers_of 0 takes) askers x.taker x.known) in
       elim (Contains-append_cases order taking.rest x.taker known) [
         | inl here ↦ (let w = has_take n end done pending takes taking.moment 0 puts order
-            taking.taken is_taker x.taker here in record {
+            taking.taken is_taker x.taker r.access.item x.item here in record {
               window = w.window;
               known = w.known;
-              is = w.is ∙ x.item ∙ r.item;
+              is = w.is ∙ r.item;
               at = w.at ∙ x.from ∙ r.first;
             })
         | inr there ↦ absurd (omega (
@@ -855,8 +983,8 @@ module _ (n end : ℕ) (done : List Call) (pending : List PendingCall) (puts : L
         ))
       ]
 
-  pub taken_spans : AreSpans done pending end ws
-  taken_spans =
+  pub taken_given : AreGiven n done pending end ws
+  taken_given =
       let lasts = all_last n end time rises 0 all timed in
       let puts_differ_all : EachPair (λ (x y : Window). x.put_first ≡ y.put_first → ⊥)
       (ws ++ begin.0) = subst (EachPair (λ (x y : Window). x.put_first ≡ y.put_first → ⊥))
@@ -866,7 +994,7 @@ module _ (n end : ℕ) (done : List Call) (pending : List PendingCall) (puts : L
       subst (EachPair (λ (x y : Window). x.take_first ≡ y.take_first → x.take_first ≡ end))
       (sym begin.1) (takes_apart n end done pending takes taking.moment puts order is_taker differ)
       in record {
-        each = all_spans n end done pending takes taking.moment 0 puts order taking.taken is_put
+        each = all_given n end done pending takes taking.moment 0 puts order taking.taken is_put
             is_taker;
         puts = put_has;
         takes = take_has;
@@ -875,13 +1003,12 @@ module _ (n end : ℕ) (done : List Call) (pending : List PendingCall) (puts : L
         takes_apart = each_pair_left
             (λ (x y : Window). x.take_first ≡ y.take_first → x.take_first ≡ end) ws begin.0
             takes_differ_all;
+        kept_last = kept_last n end done pending takes taking.moment puts order is_taker;
+        ranked = record {
+          all = IsPermutation-refl ws;
+          pairs = each_pair_left MayPrecede ws begin.0 (subst (EachPair MayPrecede) (sym begin.1)
+              (all_precede n end time rises 0 all timed one_by_one));
+          room = room_left n ws begin.0 (subst (HaveRoom n) (sym begin.1)
+              (all_have_room n end time rises 0 all timed due one_by_one));
+        };
       }
-
-  pub taken_ranked : AreRanked n ws ws
-  taken_ranked = record {
-    all = IsPermutation-refl ws;
-    pairs = each_pair_left MayPrecede ws begin.0 (subst (EachPair MayPrecede) (sym begin.1)
-        (all_precede n end time rises 0 all timed one_by_one));
-    room = room_left n ws begin.0 (subst (HaveRoom n) (sym begin.1)
-        (all_have_room n end time rises 0 all timed due one_by_one));
-  }

@@ -110,16 +110,15 @@ pub record FromOverdue (n : ℕ) (done : List Call) (pending : List PendingCall)
   pub refuted : Refute n jobs (reverse bounds)
 
 -- items are taken out, or put in, in an order that is known. At least so many have to be by some
--- positions that one of them can't be by then. All calls are before `end`
+-- positions, and not so many can be. All calls are before `end`
 pub record FromOutrun (n : ℕ) (done : List Call) (pending : List PendingCall) (flow : Flow)
-    (steps : List Step) (turn : ℕ) (clash : Clash) : Type 0 where
+    (steps : List Step) (clash : Clash) : Type 0 where
   pub end : ℕ
   pub within : AreWithin end done pending
   pub turns : List Turn
   pub takers : List Taker
   pub are : AreTurns flow n end done pending turns takers
-  pub refuted : steps_of.Refute end turns takers (reverse steps) turn
-  pub clashes : steps_of.IsClash turns takers (steps_of.last_at (reverse steps)) turn clash
+  pub refuted : steps_of.Refute end turns takers (reverse steps) clash
 
 -- completed and pending calls of a buffer with room for n items show a fault
 abbrev pub ShowsIn : ℕ → List Call → List PendingCall → Fault → Type 0
@@ -131,8 +130,8 @@ ShowsIn n done pending (Overtaken p c before later all) =
 ShowsIn n done pending (Passed p c left asked) = FromPassed done pending p c left asked
 ShowsIn n done pending (Squeezed q p left asked) = FromSqueezed n done pending q p left asked
 ShowsIn n done pending (Overdue bounds) = FromOverdue n done pending bounds.items
-ShowsIn n done pending (Outrun flow steps turn clash) =
-    FromOutrun n done pending flow steps.items turn clash
+ShowsIn n done pending (Outrun flow steps clash) =
+    FromOutrun n done pending flow steps.items clash
 
 -- a history shows a fault
 abbrev pub Shows : ℕ → List Event → Fault → Type 0

@@ -25,15 +25,13 @@ pub record AreDistinct (done : List Call) (pending : List PendingCall) : Type 0 
   pub once : (v : ℕ) → all_puts (item v) done pending ≤ 1
   pub answered : AreAnswered done pending
 
--- of two produces that put an item in, one returned before the other was invoked. And no consume is
--- pending
+-- of two produces that put an item in, one returned before the other was invoked
 pub record AreInTurn (done : List Call) (pending : List PendingCall) : Type 0 where
   pub apart : (c d : Call) → Contains done c → Contains done d → IsTrue (is_put any_item c)
       → IsTrue (is_put any_item d) → c.first < d.first → c.last < d.first
   pub last : (c : Call) (o : PendingCall) → Contains done c → Contains pending o
       → IsTrue (is_put any_item c) → IsTrue (produces any_item o.op) → c.last < o.first
   pub few : count_by (λ (o : PendingCall). produces any_item o.op) pending ≤ 1
-  pub none : count_by (λ (o : PendingCall). is_consume o.op) pending ≡ 0
 
 -- of two consumes that returned an item, one returned before the other was invoked. And no more
 -- items may have been put in than were returned

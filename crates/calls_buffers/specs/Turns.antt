@@ -2,7 +2,7 @@
 -- are taken out: each turn takes out the next one. If no two consumes overlap, it is known in which
 -- order they were put in: each turn puts in the next one.
 use Rattle.std.specs.Prelude.{◌≡◌, ℕ, ◌+◌, ◌-◌, ◌<◌, ◌≤◌, nat_le, List, [], ◌∷◌, ◌++◌, drop, count_by}
-use Rattle.std.specs.Prelude.{slice_index_or, if◌then◌else◌}
+use Rattle.std.specs.Prelude.{slice_index_or, if◌then◌else◌, Bool, true, false, Some, None}
 use Rattle.std.specs.List.Sorted.{IsPermutation}
 use Rattle.calls_core.specs.declared.history.PendingCall.{PendingCall}
 use Rattle.calls_core.specs.declared.history.Call.{Call}
@@ -32,7 +32,17 @@ AreApart list = EachPair (λ (a b : Access). a.last < b.first) list
 abbrev pub takers_of : ℕ → List Access → List Taker
 takers_of i [] = []
 takers_of i (a ∷ list) =
-    (record { call = i; item = a.item; from = a.first; by = a.last }) ∷ takers_of (i + 1) list
+    (record { call = i; item = Some a.item; from = a.first; by = a.last })
+    ∷ takers_of (i + 1) list
+
+-- a pending consume may take a turn of any item. The first of these calls has index i
+abbrev pub asker_of : ℕ → ℕ → PendingCall → Bool → List Taker
+asker_of end i o false = []
+asker_of end i o true = record { call = i; item = None; from = o.first; by = end } ∷ []
+
+abbrev pub askers_of : ℕ → ℕ → List PendingCall → List Taker
+askers_of end i [] = []
+askers_of end i (o ∷ os) = asker_of end i o (is_consume o.op) ++ askers_of end (i + 1) os
 
 -- ITEMS ARE TAKEN OUT: each after its produce was invoked, and before the produce returned that
 -- comes n after it
@@ -53,8 +63,7 @@ pub record AreTaken (n end : ℕ) (done : List Call) (pending : List PendingCall
   pub all : IsPermutation (puts_of end done pending) puts
   pub apart : AreApart puts
   pub turns_are : turns ≡ taking_turns n end puts
-  pub takers_are : takers ≡ takers_of 0 (takes_of done)
-  pub none : count_by (λ (o : PendingCall). is_consume o.op) pending ≡ 0
+  pub takers_are : takers ≡ takers_of 0 (takes_of done) ++ askers_of end 0 pending
 
 -- ITEMS ARE PUT IN: each before its consume returned, and after the consume was invoked that comes
 -- n before it

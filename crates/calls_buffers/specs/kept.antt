@@ -5,6 +5,7 @@ pub mod Accesses
 pub mod InTurn
 pub mod Windows
 pub mod Spans
+pub mod Settling
 pub mod Plans
 pub mod Pairs
 pub mod Jobs

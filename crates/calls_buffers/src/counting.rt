@@ -41,7 +41,7 @@ fn produces(items: &Items, op: Op) -> bool
 }
 
 /// Returns whether a pending call asks for an item.
-fn is_consume(op: Op) -> bool
+pub(crate) fn is_consume(op: Op) -> bool
     ensures { result ≡ is_consume op }
 {
     matches!(op, Op::Consume)

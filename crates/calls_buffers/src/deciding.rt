@@ -25,6 +25,7 @@ use crate::finding::find_fault;
 use crate::planning::{find_order, order_of};
 use crate::ranking::{Ranking, ranked};
 use crate::recorded::{Recorded, record};
+use crate::settling::settled_order;
 use crate::testing::unproduced;
 use crate::turns::{Turned, by_turns};
 use crate::windows::{Window, Windows, windows_of};
@@ -147,7 +148,7 @@ fn decide_in_turn(
 {
     match by_turns(alloc, room, calls, end)? {
         Some(Turned::Refuted(fault)) => Ok(Outcome::Refused(fault)),
-        Some(Turned::Ranked(order)) => match order_of(alloc, room, calls, &order, &[], end)? {
+        Some(Turned::Ranked(order)) => match settled_order(alloc, room, calls, &order, end)? {
             Some(order) => Ok(Outcome::Ordered(order)),
             None => Ok(Outcome::NotDecided),
         },
@@ -237,10 +238,10 @@ fn after(events: &Part<'_, '_>) -> usize {
     }
 }
 
-/// Decides whether the calls of a buffer with room for so many items have a linearization. It always
-/// does so if no item is put in twice and no pending consume may have taken one; or no two produces
-/// overlap and no consume is pending; or no two consumes overlap and no more was put in than was
-/// returned. `end` is a position after all events.
+/// Decides whether the calls of a buffer with room for so many items have a linearization. It does
+/// so if no item is put in twice and no pending consume may have taken one; or no two produces
+/// overlap; or no two consumes overlap and no more was put in than was returned. `end` is a
+/// position after all events.
 pub fn decide(
     alloc: Global,
     room: usize,

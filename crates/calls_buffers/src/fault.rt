@@ -77,12 +77,10 @@ pub enum Fault {
         bounds: Vec<Bound>,
     },
     /// If items are taken out, or put in, in the order that is known, then at least so many are by
-    /// each of these positions. The last number needs the item at this index, for which that can't
-    /// be by then.
+    /// each of these positions. The clash says why not so many can be.
     Outrun {
         flow: Flow,
         steps: Vec<Step>,
-        turn: usize,
         clash: Clash,
     },
 }

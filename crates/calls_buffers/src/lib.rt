@@ -16,6 +16,7 @@ mod ordering;
 mod planning;
 mod ranking;
 mod recorded;
+mod settling;
 mod tally;
 mod testing;
 mod turns;

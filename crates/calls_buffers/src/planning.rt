@@ -4,7 +4,8 @@ ghost use Rattle.std.specs.Prelude.{OnOk, None, Some, slice_index_or, if◌then�
 ghost use Rattle.std.specs.HashMap.{get};
 ghost use Rattle.calls_core.specs.declared.history.Kind.TheVariants.{Buffer};
 ghost use Rattle.calls_core.specs.declared.history.PendingCall.{PendingCall};
-ghost use Rattle.calls_core.specs.Calls.{AreCallsOf};
+ghost use Rattle.calls_core.specs.Lists.{Each, EachPair};
+ghost use Rattle.calls_core.specs.Calls.{Earlier, IsCallOf, AreCallsOf};
 ghost use Rattle.calls_buffers.specs.declared.windows.Window.{Window};
 ghost use Rattle.calls_buffers.specs.kept.Orders.{same_pair, IsFound};
 ghost use Rattle.calls_buffers.specs.kept.Windows.{AreWindows, AreRanked};
@@ -218,7 +219,8 @@ pub(crate) fn order_of(
         calls.now.pending.items end → AreWindows calls.now.done.items calls.now.pending.items end ws
         → AreRanked room ws order.now → 0 < room
         → ((i : ℕ) → slice_index_or taken.now i None ≡ None) → IfOk result (λ order. IsSome order) }
-    ensures spread { AreCallsOf (Buffer room) calls.now.done.items calls.now.pending.items end
+    ensures spread { Each (IsCallOf (Buffer room) end) calls.now.done.items
+        → EachPair Earlier calls.now.pending.items
         → AreInvokedApart calls.now.done.items calls.now.pending.items
         → AreSpans calls.now.done.items calls.now.pending.items end order.now
         → AreRanked room order.now order.now → 0 < room

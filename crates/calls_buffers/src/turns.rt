@@ -1,5 +1,5 @@
 //! The items of a history as turns, if no two produces or no two consumes overlap.
-ghost use Rattle.std.specs.Prelude.{◌≡◌, ◌≤◌, ◌⊎◌, ◌↔◌, List, count_by, drop, slice_get};
+ghost use Rattle.std.specs.Prelude.{◌≡◌, ◌≤◌, ◌⊎◌, ◌↔◌, ◌++◌, List, count_by, drop, slice_get};
 ghost use Rattle.std.specs.Prelude.{IfOk, IfSome, IsSome, IsTrue};
 ghost use Rattle.std.specs.List.Sorted.{IsPermutation};
 ghost use Rattle.calls_core.specs.declared.history.Kind.TheVariants.{Buffer};
@@ -10,20 +10,22 @@ ghost use Rattle.calls_core.specs.Calls.{AreCallsOf};
 ghost use Rattle.calls_buffers.specs.declared.accesses.Access.{Access};
 ghost use Rattle.calls_buffers.specs.Counts.{any_item, is_take, all_puts};
 ghost use Rattle.calls_buffers.specs.Outcomes.{AreInTurn, AreTakenInTurn};
-ghost use Rattle.calls_buffers.specs.Turns.{takers_of, taking_turns, putting_turns, first_before};
+ghost use Rattle.calls_buffers.specs.Turns.{takers_of, askers_of, taking_turns, putting_turns};
+ghost use Rattle.calls_buffers.specs.Turns.{first_before};
 ghost use Rattle.calls_buffers.specs.Turns.{puts_of, takes_of, AreApart};
 ghost use Rattle.calls_buffers.specs.Turns.{last_or};
-ghost use Rattle.calls_buffers.specs.kept.Decisions.{NoneAsked};
-ghost use Rattle.calls_buffers.specs.kept.Spans.{AreInvokedApart, IsTurned};
-ghost use Rattle.calls_buffers.specs.kept.Takings.{take_of, taken_windows};
+ghost use Rattle.calls_buffers.specs.kept.Spans.{AreInvokedApart};
+ghost use Rattle.calls_buffers.specs.kept.Settling.{IsTurned};
+ghost use Rattle.calls_buffers.specs.kept.Takings.{take_by, take_of, taken_windows};
 ghost use Rattle.calls_buffers.specs.kept.Puttings.{put_windows};
 ghost use Rattle.calls_buffers.specs.kept.InTurn.{ByFirst};
 
-use crate::accesses::{Access, add_pending, completed_puts, completed_takes};
-use crate::counting::all_pending_takes;
+use crate::accesses::{Access, Place, add_pending, completed_puts, completed_takes};
+use crate::counting::is_consume;
 use crate::fault::{Fault, Flow};
 use crate::recorded::Recorded;
 use crate::windows::{Window, with_take, without_take};
+use calls_core::PendingCall;
 use calls_turns::{Outcome, Taker, Turn, assign};
 use std::alloc::{AllocError, Global};
 
@@ -67,12 +69,48 @@ fn takers(alloc: Global, list: &[Access]) -> Result<Vec<Taker>, AllocError>
     for (call, access) in list.iter().enumerate() {
         takers.push(Taker {
             call,
-            item: access.item,
+            item: Some(access.item),
             from: access.first,
             by: access.last,
         })?;
     }
     Ok(takers)
+}
+
+/// Adds the pending consumes, each as a taker of any item.
+fn add_askers(
+    takers: &mut Vec<Taker>,
+    pending: &[PendingCall],
+    end: usize,
+) -> Result<(), AllocError>
+    ensures { IfOk result (λ done. takers.new.items ≡ takers.old.items
+        ++ askers_of end 0 pending.now) }
+{
+    for (i, call) in pending.iter().enumerate() {
+        if is_consume(call.op) {
+            takers.push(Taker {
+                call: i,
+                item: None,
+                from: call.first,
+                by: end,
+            })?;
+        }
+    }
+    Ok(())
+}
+
+/// Lists the consumes that may take items out as takers of turns.
+fn all_takers(
+    alloc: Global,
+    takes: &[Access],
+    pending: &[PendingCall],
+    end: usize,
+) -> Result<Vec<Taker>, AllocError>
+    ensures { IfOk result (λ v. v.items ≡ takers_of 0 takes.now ++ askers_of end 0 pending.now) }
+{
+    let mut list = takers(alloc, takes)?;
+    add_askers(&mut list, pending, end)?;
+    Ok(list)
 }
 
 /// Returns the position by which the first of these items is taken out, for the one to be put in
@@ -132,12 +170,27 @@ fn putting_turns(alloc: Global, room: usize, takes: &[Access]) -> Result<Vec<Tur
     Ok(turns)
 }
 
+/// Returns the consume by which a taker takes out an item.
+fn take_by(takes: &[Access], taker: &Taker, item: usize) -> Option<Access>
+    ensures { result ≡ take_by takes.now item taker.now }
+{
+    match taker.item {
+        Some(_) => takes.get(taker.call).copied(),
+        None => Some(Access {
+            item,
+            place: Place::Pending(taker.call),
+            first: taker.from,
+            last: taker.by,
+        }),
+    }
+}
+
 /// Returns the consume by which the item of a turn is taken out, if there is one.
-fn take_of(takes: &[Access], order: &[Taker], turn: usize) -> Option<Access>
-    ensures { result ≡ take_of takes.now (slice_get order.now turn) }
+fn take_of(takes: &[Access], order: &[Taker], turn: usize, item: usize) -> Option<Access>
+    ensures { result ≡ take_of takes.now item (slice_get order.now turn) }
 {
     match order.get(turn) {
-        Some(taker) => takes.get(taker.call).copied(),
+        Some(taker) => take_by(takes, taker, item),
         None => None,
     }
 }
@@ -155,7 +208,7 @@ fn taken_windows(
 {
     let mut windows = Vec::new(alloc);
     for (k, put) in puts.iter().enumerate() {
-        match take_of(takes, order, k) {
+        match take_of(takes, order, k, put.item) {
             Some(take) => windows.push(with_take(put, &take))?,
             None => {
                 if put.last < end {
@@ -192,24 +245,24 @@ fn by_takes(
     room: usize,
     puts: &[Access],
     takes: &[Access],
+    pending: &[PendingCall],
     end: usize,
 ) -> Result<Turned, AllocError>
-    ensures { (done : List Call) (pending : List PendingCall)
-        → AreCallsOf (Buffer room) done pending end → AreInvokedApart done pending
-        → IsPermutation (puts_of end done pending) puts.now → AreApart puts.now
-        → takes.now ≡ takes_of done → NoneAsked pending
-        → IfOk result (IsTurned room done pending end) }
+    ensures { (done : List Call) (asking : List PendingCall)
+        → AreCallsOf (Buffer room) done asking end → AreInvokedApart done asking
+        → IsPermutation (puts_of end done asking) puts.now → AreApart puts.now
+        → takes.now ≡ takes_of done → pending.now ≡ asking
+        → IfOk result (IsTurned room done asking end) }
 {
     let turns = taking_turns(alloc, room, end, puts)?;
-    match assign(alloc, end, &turns, &takers(alloc, takes)?)? {
+    match assign(alloc, end, &turns, &all_takers(alloc, takes, pending, end)?)? {
         Outcome::Assigned(order) => {
             let windows = taken_windows(alloc, puts, takes, &order, end)?;
             Ok(Turned::Ranked(windows))
         }
-        Outcome::Refuted { steps, turn, clash } => Ok(Turned::Refuted(Fault::Outrun {
+        Outcome::Refuted { steps, clash } => Ok(Turned::Refuted(Fault::Outrun {
             flow: Flow::Out,
             steps,
-            turn,
             clash,
         })),
     }
@@ -236,17 +289,16 @@ fn by_puts(
             let windows = put_windows(alloc, puts, takes, &order)?;
             Ok(Turned::Ranked(windows))
         }
-        Outcome::Refuted { steps, turn, clash } => Ok(Turned::Refuted(Fault::Outrun {
+        Outcome::Refuted { steps, clash } => Ok(Turned::Refuted(Fault::Outrun {
             flow: Flow::In,
             steps,
-            turn,
             clash,
         })),
     }
 }
 
-/// Decides calls of which no two produces overlap and no consume is pending, or no two consumes
-/// overlap and no more was put in than was returned.
+/// Decides calls of which no two produces overlap, or no two consumes overlap and no more was put
+/// in than was returned.
 pub(crate) fn by_turns(
     alloc: Global,
     room: usize,
@@ -264,8 +316,9 @@ pub(crate) fn by_turns(
     add_pending(&mut puts, &calls.pending, end)?;
     let takes = completed_takes(alloc, &calls.done)?;
     let puts_in_order = sorted(alloc, &puts)?;
-    if are_apart(&puts_in_order) && all_pending_takes(&calls.pending) == 0 {
-        return Ok(Some(by_takes(alloc, room, &puts_in_order, &takes, end)?));
+    if are_apart(&puts_in_order) {
+        let turned = by_takes(alloc, room, &puts_in_order, &takes, &calls.pending, end)?;
+        return Ok(Some(turned));
     }
     let takes_in_order = sorted(alloc, &takes)?;
     if are_apart(&takes_in_order) && puts.len() <= takes.len() {

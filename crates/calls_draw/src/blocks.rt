@@ -10,7 +10,7 @@ use calls_core::{Call, Op, Reply};
 pub(crate) const BLOCK: u64 = 22;
 
 /// Puts a block with a value.
-fn put_block(
+pub(crate) fn put_block(
     out: &mut Pen<'_>,
     picture: &Picture<'_>,
     class: &[u8],
@@ -50,10 +50,10 @@ pub(crate) fn put_values(out: &mut Pen<'_>, picture: &Picture<'_>, panel: &Panel
     }
 }
 
-/// Returns the value that a put stores or a get returned.
+/// Returns the value or item that a call stores, or that it returned.
 fn value_of(call: &Call) -> usize {
     match (call.op, call.reply) {
-        (Op::Put(n), _) => n,
+        (Op::Put(n) | Op::Produce(n), _) => n,
         (_, Reply::Number(n)) => n,
         _ => 0,
     }

@@ -1,6 +1,7 @@
 //! The evidence that a history is rejected, in the panel of its object.
 use crate::curves::put_level;
 use crate::grid::LEFT;
+use crate::limits::{limits_range, put_limits};
 use crate::panels::{Panel, Subject, implied_number};
 use crate::picture::{Evidence, Picture};
 use crate::scale::{Range, Scale};
@@ -41,6 +42,7 @@ pub(crate) fn evidence_range(
     evidence: &Evidence<'_>,
 ) -> Range {
     let mut range = stairs_range(picture, range, evidence.stairs.as_slice());
+    range = limits_range(range, evidence.limits.as_slice());
     for call in &evidence.faulty {
         range = implied_number(call.op, call.reply).map_or(range, |n| range.with(n));
         range = missed_threshold(call).map_or(range, |n| range.with(n));
@@ -69,7 +71,7 @@ fn stairs_range(picture: &Picture<'_>, range: Range, stairs: &[Stair]) -> Range 
 /// Returns the style class of a stair.
 fn stair_class(stair: &Stair) -> &'static [u8] {
     match stair.span.counted {
-        CountFilter::Adding(_) => b"given",
+        CountFilter::Adding(_) | CountFilter::Consumes(_) => b"given",
         _ => b"stair",
     }
 }
@@ -79,6 +81,8 @@ fn stair_words(stair: &Stair) -> &'static [u8] {
     match (stair.span.counted, stair.span.portion) {
         (CountFilter::Adding(_), _) => b"given: ",
         (CountFilter::Taking(_), _) => b"taken: ",
+        (CountFilter::Produces(_), _) => b"put in: ",
+        (CountFilter::Consumes(_), _) => b"at most ",
         (_, Portion::Called) => b"at most ",
         _ => b"at least ",
     }
@@ -229,6 +233,7 @@ pub(crate) fn put_evidence(
             put_missed(out, picture, scale, evidence.faulty.as_slice());
         }
         Subject::Numbers(_) => put_turn(out, picture, scale, evidence.faulty.as_slice()),
+        Subject::Items(_) => put_limits(out, picture, scale, evidence.limits.as_slice()),
         Subject::Units(_, _) | Subject::Values(_) => {}
     }
 }

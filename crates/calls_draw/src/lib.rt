@@ -8,6 +8,8 @@ mod curves;
 mod drawing;
 mod grid;
 mod history;
+mod items;
+mod limits;
 mod lines;
 mod panels;
 mod picture;

@@ -1,5 +1,6 @@
 //! The panels below the rows: the numbers and the values of the objects.
 use crate::choice::uses_semaphore;
+use crate::items::{ItemBlocks, held_steps};
 use crate::picture::Picture;
 use crate::sink::PutResult;
 use calls_core::{Kind, Op, Placed, Reply};
@@ -17,6 +18,8 @@ pub(crate) enum Subject {
     Units(usize, usize),
     /// The values of the cell or database with this index.
     Values(usize),
+    /// The items of the buffer with this index: how many there are.
+    Items(usize),
 }
 
 /// The least and the greatest number at a moment.
@@ -45,10 +48,12 @@ pub(crate) struct Panel {
     pub(crate) spots: Vec<CurveStep>,
     /// Its bounds at each moment that is shown; empty if it shows values.
     pub(crate) bounds: Vec<Bounds>,
+    /// The items of a buffer.
+    pub(crate) items: ItemBlocks,
 }
 
 impl Subject {
-    /// Returns the track of the object that it shows.
+    /// Returns the track of the object that it shows; of a buffer, that of the items put in.
     fn track(self) -> Track {
         match self {
             Subject::Count(object) | Subject::Numbers(object) | Subject::Values(object) => Track {
@@ -56,6 +61,7 @@ impl Subject {
                 index: 0,
             },
             Subject::Units(object, index) => Track { object, index },
+            Subject::Items(object) => Track { object, index: 2 },
         }
     }
 
@@ -94,10 +100,10 @@ fn raised_bounds(start: usize, tally: &Tally) -> Bounds {
     }
 }
 
-/// Returns the bounds of a number of units.
-fn unit_bounds(units: usize, given: &Tally, taken: &Tally) -> Bounds {
-    let least = units.saturating_add(given.returned);
-    let most = units.saturating_add(given.called);
+/// Returns the bounds of a number that is raised by some calls and lowered by others.
+fn moved_bounds(start: usize, given: &Tally, taken: &Tally) -> Bounds {
+    let least = start.saturating_add(given.returned);
+    let most = start.saturating_add(given.called);
     Bounds {
         least: least.saturating_sub(taken.called),
         most: most.saturating_sub(taken.returned),
@@ -122,20 +128,22 @@ fn count_bounds(
         .collect(alloc)
 }
 
-/// Returns the bounds at the moments that are shown of the units of a semaphore.
-fn bounds_of_units(
+/// Returns the bounds at the moments that are shown of a number that some calls raise and others
+/// lower.
+fn bounds_between(
     alloc: Global,
     picture: &Picture<'_>,
     start: usize,
-    place: usize,
+    raising: CountFilter,
+    lowering: CountFilter,
 ) -> Result<Vec<Bounds>, AllocError> {
     let window = picture.window();
-    let given = tallies_of(alloc, picture.events, CountFilter::Adding(place))?;
-    let taken = tallies_of(alloc, picture.events, CountFilter::Taking(place))?;
+    let given = tallies_of(alloc, picture.events, raising)?;
+    let taken = tallies_of(alloc, picture.events, lowering)?;
     let mut bounds = Vec::new(alloc);
     for position in window.from..=window.to {
         if let (Some(given), Some(taken)) = (given.get(position), taken.get(position)) {
-            bounds.push(unit_bounds(start, given, taken))?;
+            bounds.push(moved_bounds(start, given, taken))?;
         }
     }
     Ok(bounds)
@@ -151,7 +159,14 @@ fn bounds_of(
     match subject {
         Subject::Count(k) => count_bounds(alloc, picture, start, CountFilter::Advances(k)),
         Subject::Numbers(k) => count_bounds(alloc, picture, start, CountFilter::Tickets(k)),
-        Subject::Units(_, place) => bounds_of_units(alloc, picture, start, place),
+        Subject::Units(_, i) => {
+            let (raising, lowering) = (CountFilter::Adding(i), CountFilter::Taking(i));
+            bounds_between(alloc, picture, start, raising, lowering)
+        }
+        Subject::Items(k) => {
+            let (raising, lowering) = (CountFilter::Produces(k), CountFilter::Consumes(k));
+            bounds_between(alloc, picture, start, raising, lowering)
+        }
         Subject::Values(_) => Ok(Vec::new(alloc)),
     }
 }
@@ -198,16 +213,28 @@ fn spots_of(
     Ok(spots)
 }
 
+/// Returns the numbers of what this shows along the linearization.
+fn numbers_of(
+    alloc: Global,
+    picture: &Picture<'_>,
+    subject: Subject,
+) -> Result<Vec<Step>, AllocError> {
+    match subject {
+        Subject::Items(object) => held_steps(alloc, picture, object),
+        _ => steps_of(alloc, picture.kinds, picture.order, subject.track()),
+    }
+}
+
 /// Returns the panel of what this shows.
 fn panel_of(alloc: Global, picture: &Picture<'_>, subject: Subject) -> Result<Panel, AllocError> {
-    let track = subject.track();
-    let start = start_of(picture.kinds, track);
-    let steps = steps_of(alloc, picture.kinds, picture.order, track)?;
+    let start = start_of(picture.kinds, subject.track());
+    let steps = numbers_of(alloc, picture, subject)?;
     Ok(Panel {
         subject,
         before: value_before(start, &steps, picture.window().from),
         spots: spots_of(alloc, picture, subject, &steps)?,
         bounds: bounds_of(alloc, picture, subject, start)?,
+        items: ItemBlocks::of(alloc, picture, subject, &steps)?,
     })
 }
 
@@ -260,7 +287,7 @@ pub(crate) fn panels_of(alloc: Global, picture: &Picture<'_>) -> Result<Vec<Pane
                 add_semaphores(alloc, &mut panels, picture, object, units.len())?;
                 continue;
             }
-            Kind::Buffer(_) => continue,
+            Kind::Buffer(_) => Subject::Items(object),
         };
         add_panel(alloc, &mut panels, picture, subject)?;
     }
@@ -268,8 +295,11 @@ pub(crate) fn panels_of(alloc: Global, picture: &Picture<'_>) -> Result<Vec<Pane
 }
 
 /// Returns the number that a call says of its object. An await says its threshold if it is done,
-/// and one less if it gave up.
+/// and one less if it gave up. A consume returns an item, and says no number.
 pub(crate) fn implied_number(op: Op, reply: Reply) -> Option<usize> {
+    if matches!(op, Op::Consume) {
+        return None;
+    }
     match (op, reply) {
         (_, Reply::Number(n)) => Some(n),
         (Op::Await(v), Reply::Done) => Some(v),

@@ -2,6 +2,7 @@
 use crate::choice::Selection;
 use crate::grid::{Grid, LEFT};
 use crate::history::FoundHistory;
+use crate::limits::{Limit, limits_of};
 use crate::lines::EventLines;
 use crate::view::{CallsView, Window, window_of};
 use calls_core::{Action, Call, Event, Kind, Op, PendingCall, Placed, Reply};
@@ -38,6 +39,8 @@ pub(crate) struct Evidence<'a> {
     pub(crate) faulty: Vec<Call>,
     /// Its stairs.
     pub(crate) stairs: Vec<Stair>,
+    /// Its limits of numbers of items.
+    pub(crate) limits: Vec<Limit>,
 }
 
 /// What is drawn of a history.
@@ -131,6 +134,7 @@ fn evidence_of<'a>(
         refusal,
         faulty: faulty_calls(alloc, &refusal.fault)?,
         stairs: stairs_of(alloc, events, &spans)?,
+        limits: limits_of(alloc, &refusal.fault)?,
     })
 }
 
@@ -169,12 +173,38 @@ impl<'a> Evidence<'a> {
         )
     }
 
+    /// Returns whether it is about how many items are in a buffer.
+    pub(crate) fn is_of_held(&self) -> bool {
+        matches!(
+            self.refusal.fault,
+            Fault::Items(calls_buffers::Fault::Crowded { .. })
+        )
+    }
+
+    /// Returns whether the calls that it names are drawn as blocks in lanes.
+    pub(crate) fn has_lanes(&self) -> bool {
+        match &self.refusal.fault {
+            Fault::Value(_) => true,
+            Fault::Items(_) => self.stairs.is_empty() && self.limits.is_empty(),
+            _ => false,
+        }
+    }
+
     /// Returns the least position among the faulty event and the invocations of the calls that it
     /// names.
-    fn earliest(&self) -> usize {
+    fn earliest_call(&self) -> usize {
         let mut least = self.refusal.at;
         for call in &self.faulty {
             least = least.min(call.first);
+        }
+        least
+    }
+
+    /// Returns the least position among these and those of its limits.
+    fn earliest(&self) -> usize {
+        let mut least = self.earliest_call();
+        for limit in &self.limits {
+            least = least.min(limit.at);
         }
         least
     }

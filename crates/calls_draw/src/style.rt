@@ -28,8 +28,8 @@ text { font-family: 'DejaVu Sans Mono', monospace; font-size: 10px; fill: #1f293
 .ticket { fill: #e69f00; stroke: #e69f00; }
 .p { fill: #56b4e9; stroke: #56b4e9; }
 .v { fill: #d55e00; stroke: #d55e00; }
-.put { fill: #d55e00; stroke: #d55e00; }
-.get { fill: #56b4e9; stroke: #56b4e9; }
+.put, .produce { fill: #d55e00; stroke: #d55e00; }
+.get, .consume { fill: #56b4e9; stroke: #56b4e9; }
 .mark { fill: #ffffff; stroke: #1f2933; stroke-width: 2; }
 .band { fill: #009e73; fill-opacity: 0.20; }
 .curve { fill: none; stroke: #009e73; stroke-width: 2.5; }

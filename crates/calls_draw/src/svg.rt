@@ -5,6 +5,7 @@ use crate::curves::{
     put_awaited, put_band, put_curve, put_levels, put_panel_name, put_scale, put_seen, range_of,
 };
 use crate::grid::below;
+use crate::items::{put_items, put_room};
 use crate::panels::{Panel, Subject, panels_of};
 use crate::picture::{Evidence, Picture};
 use crate::rows::{put_column_names, put_columns, put_faulty_column, put_marks, put_rows};
@@ -23,21 +24,35 @@ const MARGIN: u64 = 70;
 /// The height of a line of a note.
 const NOTE: u64 = 17;
 
+/// Returns the range of the numbers of a panel that are drawn with evidence: of those put into a
+/// buffer, or taken, only 0.
+fn refused_range(picture: &Picture<'_>, panel: &Panel, evidence: &Evidence<'_>) -> Range {
+    match panel.subject {
+        Subject::Items(_) if !evidence.is_of_held() => Range::of(0),
+        _ => range_of(picture, panel),
+    }
+}
+
 /// Returns the range of the numbers of a panel, extended to those of its evidence.
 fn whole_range(picture: &Picture<'_>, panel: &Panel) -> Range {
-    let range = range_of(picture, panel);
     match evidence_in(picture, panel) {
-        Some(evidence) => evidence_range(picture, range, evidence),
-        None => range,
+        Some(evidence) => {
+            let range = refused_range(picture, panel, evidence);
+            evidence_range(picture, range, evidence)
+        }
+        None => range_of(picture, panel),
     }
 }
 
 /// Returns the height of a panel.
 fn panel_height(picture: &Picture<'_>, panel: &Panel) -> u64 {
     match (panel.subject, evidence_in(picture, panel)) {
-        (Subject::Values(_), Some(evidence)) => lanes_height(evidence),
-        (Subject::Values(_), None) => BLOCK,
-        _ => Scale::new(whole_range(picture, panel), 0).height,
+        (_, Some(evidence)) if evidence.has_lanes() => lanes_height(evidence),
+        (Subject::Values(_), _) => BLOCK,
+        _ => {
+            let scale = Scale::new(whole_range(picture, panel), 0);
+            scale.height.saturating_add(panel.items.height())
+        }
     }
 }
 
@@ -99,7 +114,11 @@ fn put_refused(
     match panel.subject {
         Subject::Count(_) => put_band(out, picture, scale, panel),
         Subject::Numbers(_) => put_levels(out, picture, scale, panel),
-        Subject::Units(_, _) | Subject::Values(_) => {}
+        Subject::Items(_) if evidence.is_of_held() => {
+            put_band(out, picture, scale, panel);
+            put_room(out, picture, scale, panel);
+        }
+        Subject::Items(_) | Subject::Units(_, _) | Subject::Values(_) => {}
     }
     put_evidence(out, picture, scale, panel.subject, evidence);
 }
@@ -113,7 +132,9 @@ fn put_accepted(out: &mut Pen<'_>, picture: &Picture<'_>, panel: &Panel, scale: 
     if !picture.order.is_empty() {
         put_curve(out, picture, scale, panel);
         put_seen(out, scale, panel);
+        put_items(out, picture, scale, panel);
     }
+    put_room(out, picture, scale, panel);
     put_awaited(out, picture, scale, panel);
 }
 
@@ -133,8 +154,8 @@ fn name_y(picture: &Picture<'_>, panel: &Panel, top: u64) -> u64 {
 fn put_panel(out: &mut Pen<'_>, picture: &Picture<'_>, panel: &Panel, top: u64) {
     put_panel_name(out, picture, panel.subject, name_y(picture, panel, top));
     match (panel.subject, evidence_in(picture, panel)) {
-        (Subject::Values(_), Some(evidence)) => put_lanes(out, picture, evidence, top),
-        (Subject::Values(_), None) => {
+        (_, Some(evidence)) if evidence.has_lanes() => put_lanes(out, picture, evidence, top),
+        (Subject::Values(_), _) => {
             if !picture.order.is_empty() {
                 put_values(out, picture, panel, top);
             }

@@ -1,4 +1,5 @@
 //! The whole picture, as a text for a terminal.
+use crate::limits::put_limit_line;
 use crate::panels::{CurveStep, Panel, Subject, panels_of};
 use crate::picture::{Bar, Evidence, Picture};
 use crate::sink::{Pen, PutResult};
@@ -285,6 +286,13 @@ fn put_stairs(out: &mut Pen<'_>, evidence: &Evidence<'_>) {
     }
 }
 
+/// Puts the lines of the limits.
+fn put_limits(out: &mut Pen<'_>, evidence: &Evidence<'_>) {
+    for limit in &evidence.limits {
+        put_limit_line(out, limit);
+    }
+}
+
 /// Puts a picture as a text.
 pub(crate) fn put_plain(alloc: Global, out: &mut Pen<'_>, picture: &Picture<'_>) -> PutResult {
     let width = column_width(picture);
@@ -297,6 +305,7 @@ pub(crate) fn put_plain(alloc: Global, out: &mut Pen<'_>, picture: &Picture<'_>)
     if let Some(evidence) = &picture.evidence {
         put_named(out, picture, evidence);
         put_stairs(out, evidence);
+        put_limits(out, evidence);
     }
     out.put(picture.note);
     Ok(())

@@ -17,4 +17,4 @@ item_text s (Overtaken p c before later all) = overtaken_text s p c before later
 item_text s (Passed p c left pending) = passed_text s p c left pending
 item_text s (Squeezed q p left pending) = squeezed_text s q p left pending
 item_text s (Overdue bounds) = overdue_text s bounds.items
-item_text s (Outrun flow steps turn clash) = outrun_text s flow steps.items turn clash
+item_text s (Outrun flow steps clash) = outrun_text s flow steps.items clash

@@ -1,12 +1,14 @@
 -- Why items of a buffer can't be put in or taken out in the order that is known, in words.
 use Rattle.std.specs.Prelude.{ℕ, ◌+◌, ◌-◌, List, [], ◌∷◌, ◌++◌, codes, decimal, Option, Some, None}
-use Rattle.std.specs.Prelude.{min, ◌^◌}
+use Rattle.std.specs.Prelude.{min, ◌^◌, ◌==◌, if◌then◌else◌, length, slice_get}
 use Rattle.std.specs.List.{flat_map}
+use Rattle.std.specs.Option.{option_map_or}
 use Rattle.calls_buffers.specs.declared.fault.Flow.{Flow}
 use Rattle.calls_buffers.specs.declared.fault.Flow.TheVariants.{In, Out}
 use Rattle.calls_turns.specs.declared.turn.Step.{Step}
 use Rattle.calls_turns.specs.declared.turn.Reason.{Reason}
 use Rattle.calls_turns.specs.declared.turn.Reason.TheVariants.{Due, Takers}
+use Rattle.calls_turns.specs.declared.turn.Shortage.{Shortage}
 use Rattle.calls_turns.specs.declared.turn.Clash.{Clash}
 use Rattle.calls_turns.specs.declared.turn.Clash.TheVariants.{Closed, Few}
 use Rattle.calls_report.specs.Sites.{SiteModel, line_of}
@@ -94,15 +96,63 @@ abbrev pub closed_text : SiteModel → Flow → ℕ → List ℕ
 closed_text s In k = full_text s k
 closed_text s Out k = empty_text k
 
-abbrev pub few_text : Flow → ℕ → ℕ → ℕ → ℕ → List ℕ
-few_text flow k v turns takers =
-    codes ", but of the first " ++ some (plus k 1) (codes "item") ++ codes ", " ++ decimal turns
-    ++ codes " were " ++ decimal v ++ codes ", and only " ++ calls_text flow takers
-    ++ codes " of it had been called by then"
+-- CALLS OF SOME ITEMS ARE TOO FEW, each by a line
 
-abbrev pub clash_text : SiteModel → Flow → ℕ → Clash → List ℕ
-clash_text s flow k Closed = closed_text s flow k
-clash_text s flow k (Few v turns takers) = few_text flow k v turns takers
+abbrev pub was_text : ℕ → List ℕ
+was_text n = if n == 1 then codes " was " else codes " were "
 
-abbrev pub outrun_text : SiteModel → Flow → List Step → ℕ → Clash → List ℕ
-outrun_text s flow steps k clash = steps_text s flow steps ++ clash_text s flow k clash
+abbrev pub no_calls : Flow → List ℕ
+no_calls In = codes "no produce"
+no_calls Out = codes "no consume"
+
+abbrev pub only_calls : Flow → ℕ → List ℕ
+only_calls flow n = codes "only " ++ calls_text flow n
+
+abbrev pub few_calls : Flow → ℕ → List ℕ
+few_calls flow n = if n == 0 then no_calls flow else only_calls flow n
+
+abbrev pub shortage_text : SiteModel → Flow → Shortage → List ℕ
+shortage_text s flow x =
+    codes "of the first " ++ some (plus x.turn 1) (codes "item") ++ codes ", " ++ decimal x.turns
+    ++ was_text x.turns ++ decimal x.item ++ codes ", and " ++ few_calls flow x.takers
+    ++ codes " of it had been called by line " ++ line_of s x.at
+
+abbrev pub next_shortage : SiteModel → Flow → Shortage → List ℕ
+next_shortage s flow x = codes "; " ++ shortage_text s flow x
+
+abbrev pub further_shortages : SiteModel → Flow → List Shortage → List ℕ
+further_shortages s flow xs = flat_map (λ (x : Shortage). next_shortage s flow x) xs
+
+abbrev pub listed_text : SiteModel → Flow → Shortage → List Shortage → List ℕ
+listed_text s flow x xs = shortage_text s flow x ++ further_shortages s flow xs
+
+abbrev pub shortages_text : SiteModel → Flow → List Shortage → List ℕ
+shortages_text s flow [] = []
+shortages_text s flow (x ∷ xs) = listed_text s flow x xs
+
+-- and so are the pending calls, if there are some, by the line of the last step
+
+abbrev pub asked_text : Flow → ℕ → List ℕ
+asked_text In n = some n (codes "pending produce")
+asked_text Out n = some n (codes "pending consume")
+
+abbrev pub asking_text : SiteModel → Flow → ℕ → ℕ → List ℕ
+asking_text s flow p n =
+    codes "; and only " ++ asked_text flow n ++ codes " had been called by line " ++ line_of s p
+
+abbrev pub others_text : SiteModel → Flow → ℕ → ℕ → List ℕ
+others_text s flow p n = if n == 0 then [] else asking_text s flow p n
+
+abbrev pub last_position : List Step → ℕ
+last_position xs = option_map_or (λ (x : Step). x.at) (slice_get xs (length xs - 1)) 0
+
+abbrev pub few_text : SiteModel → Flow → List Step → List Shortage → ℕ → List ℕ
+few_text s flow steps xs n =
+    codes ", but " ++ shortages_text s flow xs ++ others_text s flow (last_position steps) n
+
+abbrev pub clash_text : SiteModel → Flow → List Step → Clash → List ℕ
+clash_text s flow steps (Closed k) = closed_text s flow k
+clash_text s flow steps (Few shortages n) = few_text s flow steps shortages.items n
+
+abbrev pub outrun_text : SiteModel → Flow → List Step → Clash → List ℕ
+outrun_text s flow steps clash = steps_text s flow steps ++ clash_text s flow steps clash

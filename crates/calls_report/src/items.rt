@@ -370,11 +370,6 @@ pub(crate) fn put_items<W: Write>(out: &mut Output<'_, W>, site: &Site<'_>, faul
             pending,
         } => put_squeezed(out, site, full, put, *left, *pending),
         Fault::Overdue { bounds } => put_overdue(out, site, bounds),
-        Fault::Outrun {
-            flow,
-            steps,
-            turn,
-            clash,
-        } => put_outrun(out, site, *flow, steps, *turn, *clash),
+        Fault::Outrun { flow, steps, clash } => put_outrun(out, site, *flow, steps, clash),
     }
 }

@@ -1,16 +1,20 @@
 //! Why items can't be put in or taken out in the order that is known, in words.
+ghost use Rattle.std.specs.Prelude.{◌≡◌};
 ghost use Rattle.ec_text.specs.Puts.{Puts};
 ghost use Rattle.calls_report.specs.Outruns.{moved_text, least_text, due_put_text, due_taken_text};
 ghost use Rattle.calls_report.specs.Outruns.{due_text, since_text, calls_text, takers_text};
 ghost use Rattle.calls_report.specs.Outruns.{needed_text, reason_text, step_text, next_step};
 ghost use Rattle.calls_report.specs.Outruns.{further_steps, chain_text, steps_text, full_text};
-ghost use Rattle.calls_report.specs.Outruns.{empty_text, closed_text, few_text, clash_text};
-ghost use Rattle.calls_report.specs.Outruns.{outrun_text};
+ghost use Rattle.calls_report.specs.Outruns.{empty_text, closed_text, was_text, no_calls};
+ghost use Rattle.calls_report.specs.Outruns.{only_calls, few_calls, shortage_text, next_shortage};
+ghost use Rattle.calls_report.specs.Outruns.{further_shortages, listed_text};
+ghost use Rattle.calls_report.specs.Outruns.{shortages_text, asked_text, asking_text, others_text};
+ghost use Rattle.calls_report.specs.Outruns.{last_position, few_text, clash_text, outrun_text};
 
 use crate::items::{put_by_line, put_room, put_some, room};
 use crate::refusal::Site;
 use calls_buffers::Flow;
-use calls_turns::{Clash, Reason, Step};
+use calls_turns::{Clash, Reason, Shortage, Step};
 use ec_text::Output;
 use std::io::Write;
 
@@ -215,26 +219,182 @@ fn put_closed<W: Write>(out: &mut Output<'_, W>, site: &Site<'_>, flow: Flow, tu
     }
 }
 
-/// Puts that too few calls could have put in or taken an item by then.
+/// Puts a verb for so many items.
+fn put_was<W: Write>(out: &mut Output<'_, W>, n: usize)
+    ensures { Puts out.old out.new (was_text n) }
+{
+    if n == 1 {
+        out.put(b" was ");
+    } else {
+        out.put(b" were ");
+    }
+}
+
+/// Puts that there is no call that puts in or takes out an item.
+fn put_no_calls<W: Write>(out: &mut Output<'_, W>, flow: Flow)
+    ensures { Puts out.old out.new (no_calls flow) }
+{
+    match flow {
+        Flow::In => out.put(b"no produce"),
+        Flow::Out => out.put(b"no consume"),
+    }
+}
+
+/// Puts that there are only so many calls that put in or take out an item.
+fn put_only_calls<W: Write>(out: &mut Output<'_, W>, flow: Flow, n: usize)
+    ensures { Puts out.old out.new (only_calls flow n) }
+{
+    out.put(b"only ");
+    put_calls(out, flow, n);
+}
+
+/// Puts how few calls there are that put in or take out an item.
+fn put_few_calls<W: Write>(out: &mut Output<'_, W>, flow: Flow, n: usize)
+    ensures { Puts out.old out.new (few_calls flow n) }
+{
+    if n == 0 {
+        put_no_calls(out, flow);
+    } else {
+        put_only_calls(out, flow, n);
+    }
+}
+
+/// Puts that too few calls of an item could have put it in or taken it by a line.
+fn put_shortage<W: Write>(out: &mut Output<'_, W>, site: &Site<'_>, flow: Flow, shortage: &Shortage)
+    ensures { Puts out.old out.new (shortage_text site.now flow shortage.now) }
+{
+    out.put(b"of the first ");
+    put_some(out, shortage.turn.saturating_add(1), b"item");
+    out.put(b", ");
+    out.put_number(shortage.turns as u64);
+    put_was(out, shortage.turns);
+    out.put_number(shortage.item as u64);
+    out.put(b", and ");
+    put_few_calls(out, flow, shortage.takers);
+    out.put(b" of it had been called by line ");
+    site.put_line(out, shortage.at);
+}
+
+/// Puts a shortage after a semicolon.
+fn put_next_shortage<W: Write>(
+    out: &mut Output<'_, W>,
+    site: &Site<'_>,
+    flow: Flow,
+    shortage: &Shortage,
+)
+    ensures { Puts out.old out.new (next_shortage site.now flow shortage.now) }
+{
+    out.put(b"; ");
+    put_shortage(out, site, flow, shortage);
+}
+
+/// Puts shortages, each after a semicolon.
+fn put_further_shortages<W: Write>(
+    out: &mut Output<'_, W>,
+    site: &Site<'_>,
+    flow: Flow,
+    shortages: &[Shortage],
+)
+    ensures { Puts out.old out.new (further_shortages site.now flow shortages.now) }
+{
+    for shortage in shortages {
+        put_next_shortage(out, site, flow, shortage);
+    }
+}
+
+/// Puts a shortage, and further ones, each after a semicolon.
+fn put_listed<W: Write>(
+    out: &mut Output<'_, W>,
+    site: &Site<'_>,
+    flow: Flow,
+    first: &Shortage,
+    further: &[Shortage],
+)
+    ensures { Puts out.old out.new (listed_text site.now flow first.now further.now) }
+{
+    put_shortage(out, site, flow, first);
+    put_further_shortages(out, site, flow, further);
+}
+
+/// Puts shortages.
+fn put_shortages<W: Write>(
+    out: &mut Output<'_, W>,
+    site: &Site<'_>,
+    flow: Flow,
+    shortages: &[Shortage],
+)
+    ensures { Puts out.old out.new (shortages_text site.now flow shortages.now) }
+{
+    if let [first, further @ ..] = shortages {
+        put_listed(out, site, flow, first, further);
+    }
+}
+
+/// Puts how many pending calls there are that may put in or take out any item.
+fn put_asked<W: Write>(out: &mut Output<'_, W>, flow: Flow, n: usize)
+    ensures { Puts out.old out.new (asked_text flow n) }
+{
+    match flow {
+        Flow::In => put_some(out, n, b"pending produce"),
+        Flow::Out => put_some(out, n, b"pending consume"),
+    }
+}
+
+/// Puts that only so many pending calls had been called by a line.
+fn put_asking<W: Write>(
+    out: &mut Output<'_, W>,
+    site: &Site<'_>,
+    flow: Flow,
+    position: usize,
+    n: usize,
+)
+    ensures { Puts out.old out.new (asking_text site.now flow position n) }
+{
+    out.put(b"; and only ");
+    put_asked(out, flow, n);
+    out.put(b" had been called by line ");
+    site.put_line(out, position);
+}
+
+/// Puts how many pending calls had been called by a line, if there are some.
+fn put_others<W: Write>(
+    out: &mut Output<'_, W>,
+    site: &Site<'_>,
+    flow: Flow,
+    position: usize,
+    n: usize,
+)
+    ensures { Puts out.old out.new (others_text site.now flow position n) }
+{
+    if n != 0 {
+        put_asking(out, site, flow, position, n);
+    }
+}
+
+/// Returns the position of the last step.
+fn last_position(steps: &[Step]) -> usize
+    ensures { result ≡ last_position steps.now }
+{
+    match steps.last() {
+        Some(step) => step.at,
+        None => 0,
+    }
+}
+
+/// Puts that too few calls could have put in or taken some items by then.
 fn put_few<W: Write>(
     out: &mut Output<'_, W>,
+    site: &Site<'_>,
     flow: Flow,
-    turn: usize,
-    item: usize,
-    turns: usize,
-    takers: usize,
+    steps: &[Step],
+    shortages: &[Shortage],
+    others: usize,
 )
-    ensures { Puts out.old out.new (few_text flow turn item turns takers) }
+    ensures { Puts out.old out.new (few_text site.now flow steps.now shortages.now others) }
 {
-    out.put(b", but of the first ");
-    put_some(out, turn.saturating_add(1), b"item");
-    out.put(b", ");
-    out.put_number(turns as u64);
-    out.put(b" were ");
-    out.put_number(item as u64);
-    out.put(b", and only ");
-    put_calls(out, flow, takers);
-    out.put(b" of it had been called by then");
+    out.put(b", but ");
+    put_shortages(out, site, flow, shortages);
+    put_others(out, site, flow, last_position(steps), others);
 }
 
 /// Puts why that can't be.
@@ -242,18 +402,14 @@ fn put_clash<W: Write>(
     out: &mut Output<'_, W>,
     site: &Site<'_>,
     flow: Flow,
-    turn: usize,
-    clash: Clash,
+    steps: &[Step],
+    clash: &Clash,
 )
-    ensures { Puts out.old out.new (clash_text site.now flow turn clash) }
+    ensures { Puts out.old out.new (clash_text site.now flow steps.now clash.now) }
 {
     match clash {
-        Clash::Closed => put_closed(out, site, flow, turn),
-        Clash::Few {
-            item,
-            turns,
-            takers,
-        } => put_few(out, flow, turn, item, turns, takers),
+        Clash::Closed(turn) => put_closed(out, site, flow, *turn),
+        Clash::Few { shortages, others } => put_few(out, site, flow, steps, shortages, *others),
     }
 }
 
@@ -263,11 +419,10 @@ pub(crate) fn put_outrun<W: Write>(
     site: &Site<'_>,
     flow: Flow,
     steps: &[Step],
-    turn: usize,
-    clash: Clash,
+    clash: &Clash,
 )
-    ensures { Puts out.old out.new (outrun_text site.now flow steps.now turn clash) }
+    ensures { Puts out.old out.new (outrun_text site.now flow steps.now clash.now) }
 {
     put_steps(out, site, flow, steps);
-    put_clash(out, site, flow, turn, clash);
+    put_clash(out, site, flow, steps, clash);
 }

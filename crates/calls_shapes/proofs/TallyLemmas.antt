@@ -1,7 +1,7 @@
 -- How the tallies grow.
 use Rattle.std.proofs.Common.{◌≡◌, ℕ, ◌+◌, ◌<◌, List, [], ◌∷◌, ◌++◌, length, Some, slice_get}
 use Rattle.calls_shapes.specs.declared.tallies.Tally.{Tally}
-use Rattle.std.proofs.Common.{zero, suc, refl, arith, ap, ◌∙◌, subst, below_more}
+use Rattle.std.proofs.Common.{arith, ap, ◌∙◌, subst, below_more}
 use Rattle.ec_core.proofs.shared.Joining.{get_front as get_left}
 use Rattle.ec_heading.proofs.shared.AddedObjects.{at_end as get_last}
 

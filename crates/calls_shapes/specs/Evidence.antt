@@ -1,9 +1,7 @@
 -- The evidence of a fault: the calls that it names, and the courses of its stairs.
-use Rattle.std.specs.Prelude.{ℕ, Bool, true, false, List, [], ◌∷◌, if◌then◌else◌}
+use Rattle.std.specs.Prelude.{ℕ, List, [], ◌∷◌, if◌then◌else◌}
 use Rattle.calls_core.specs.declared.history.Kind.{Kind}
 use Rattle.calls_core.specs.declared.history.Call.{Call}
-use Rattle.calls_core.specs.declared.history.Reply.{Reply}
-use Rattle.calls_core.specs.declared.history.Reply.TheVariants.{Timeout}
 use Rattle.calls_core.specs.Linearizations.{start}
 use Rattle.calls_counts.specs.declared.fault.Fault as counts
 use Rattle.calls_counts.specs.declared.fault.Fault.TheVariants as count
@@ -20,7 +18,9 @@ use Rattle.calls_distinct.specs.declared.cell.Fault.TheVariants as distinct
 use Rattle.calls_verdict.specs.declared.verdict.Fault.{Fault}
 use Rattle.calls_verdict.specs.declared.verdict.Fault.TheVariants as faults
 use Rattle.calls_shapes.specs.declared.tallies.CountFilter.TheVariants.{Advances, Taking, Adding}
+use Rattle.calls_shapes.specs.declared.tallies.CountFilter.TheVariants.{Produces, Consumes}
 use Rattle.calls_shapes.specs.declared.stairs.Portion.TheVariants.{Called, Returned, Between}
+use Rattle.calls_shapes.specs.declared.stairs.Portion.TheVariants.{CalledBy, ReturnedBy}
 use Rattle.calls_shapes.specs.declared.stairs.StairSpan.{StairSpan}
 use Rattle.calls_report.specs.Certificates.{is_timeout}
 
@@ -54,7 +54,7 @@ item_calls (item.Overtaken p c before later all) = p ∷ c ∷ []
 item_calls (item.Passed p c left pending) = p ∷ c ∷ []
 item_calls (item.Squeezed q p left pending) = q ∷ p ∷ []
 item_calls (item.Overdue bounds) = []
-item_calls (item.Outrun flow steps turn clash) = []
+item_calls (item.Outrun flow steps clash) = []
 
 abbrev pub faulty_calls : Fault → List Call
 faulty_calls (faults.Count f) = counted_calls f
@@ -121,9 +121,37 @@ unit_spans n f =
       to = f.call.last;
     } ∷ []
 
+-- the items of buffer k that were put in up to the response of c, and how many at most there was
+-- room for: the room, and one more for each consume that was called by then
+abbrev pub full_spans : ℕ → ℕ → Call → List StairSpan
+full_spans room k c =
+    record {
+      counted = Produces k;
+      portion = ReturnedBy c.last;
+      from = 0;
+      base = 0;
+      to = c.last;
+    } ∷ record {
+      counted = Consumes k;
+      portion = CalledBy c.last;
+      from = 0;
+      base = room;
+      to = c.last;
+    } ∷ []
+
+abbrev pub item_spans : ℕ → ℕ → items.Fault → List StairSpan
+item_spans room k (item.Overfull c put taken) = full_spans room k c
+item_spans room k (item.Unproduced c taken put) = []
+item_spans room k (item.Crowded c left pending) = []
+item_spans room k (item.Overtaken p c before later all) = []
+item_spans room k (item.Passed p c left pending) = []
+item_spans room k (item.Squeezed q p left pending) = []
+item_spans room k (item.Overdue bounds) = []
+item_spans room k (item.Outrun flow steps clash) = []
+
 abbrev pub spans_of : List Kind → ℕ → Fault → List StairSpan
 spans_of kinds k (faults.Count f) = count_spans (start kinds k 0) k f
 spans_of kinds k (faults.Units f) = unit_spans (start kinds k f.index) f
 spans_of kinds k (faults.Ticket f) = []
 spans_of kinds k (faults.Value f) = []
-spans_of kinds k (faults.Items f) = []
+spans_of kinds k (faults.Items f) = item_spans (start kinds k 0) k f

@@ -1,6 +1,5 @@
 -- The numbers of an object along a linearization.
 use Rattle.std.specs.Prelude.{ℕ, ◌==◌, List, [], ◌∷◌, if◌then◌else◌}
-use Rattle.calls_core.specs.declared.history.Call.{Call}
 use Rattle.calls_core.specs.declared.history.Placed.{Placed}
 use Rattle.calls_core.specs.Linearizations.{after}
 use Rattle.calls_shapes.specs.declared.steps.Step.{Step}

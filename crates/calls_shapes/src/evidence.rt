@@ -2,7 +2,7 @@
 ghost use Rattle.std.specs.Prelude.{◌≡◌, IfOk};
 ghost use Rattle.calls_counts.specs.Faults.{least};
 ghost use Rattle.calls_shapes.specs.Evidence.{faulty_calls, spans_of, item_calls};
-ghost use Rattle.calls_shapes.specs.Evidence.{count_spans, unit_spans};
+ghost use Rattle.calls_shapes.specs.Evidence.{count_spans, unit_spans, full_spans, item_spans};
 ghost use Rattle.calls_shapes.specs.Evidence.{few_span, many_span, since_span};
 
 use crate::stairs::{Portion, StairSpan};
@@ -168,6 +168,55 @@ fn unit_spans(
     Ok(spans)
 }
 
+/// Returns the courses of the items that were put into a buffer up to the response of a call, and
+/// of how many at most there was room for.
+fn full_spans(
+    alloc: Global,
+    room: usize,
+    object: usize,
+    call: &Call,
+) -> Result<Vec<StairSpan>, AllocError>
+    ensures { IfOk result (λ v. v.items ≡ full_spans room object call.now) }
+{
+    let mut spans = Vec::new(alloc);
+    spans.push(StairSpan {
+        counted: CountFilter::Produces(object),
+        portion: Portion::ReturnedBy(call.last),
+        from: 0,
+        base: 0,
+        to: call.last,
+    })?;
+    spans.push(StairSpan {
+        counted: CountFilter::Consumes(object),
+        portion: Portion::CalledBy(call.last),
+        from: 0,
+        base: room,
+        to: call.last,
+    })?;
+    Ok(spans)
+}
+
+/// Returns the courses of a fault of a buffer with room for so many items.
+fn item_spans(
+    alloc: Global,
+    room: usize,
+    object: usize,
+    fault: &calls_buffers::Fault,
+) -> Result<Vec<StairSpan>, AllocError>
+    ensures { IfOk result (λ v. v.items ≡ item_spans room object fault.now) }
+{
+    match fault {
+        calls_buffers::Fault::Overfull { call, .. } => full_spans(alloc, room, object, call),
+        calls_buffers::Fault::Unproduced { .. } => Ok(Vec::new(alloc)),
+        calls_buffers::Fault::Crowded { .. } => Ok(Vec::new(alloc)),
+        calls_buffers::Fault::Overtaken { .. } => Ok(Vec::new(alloc)),
+        calls_buffers::Fault::Passed { .. } => Ok(Vec::new(alloc)),
+        calls_buffers::Fault::Squeezed { .. } => Ok(Vec::new(alloc)),
+        calls_buffers::Fault::Overdue { .. } => Ok(Vec::new(alloc)),
+        calls_buffers::Fault::Outrun { .. } => Ok(Vec::new(alloc)),
+    }
+}
+
 /// Returns the courses of the stairs that show a fault of an object.
 pub fn spans_of(
     alloc: Global,
@@ -186,6 +235,10 @@ pub fn spans_of(
             let index = fault.index;
             unit_spans(alloc, start_of(kinds, Track { object, index }), fault)
         }
-        Fault::Ticket(_) | Fault::Value(_) | Fault::Items(_) => Ok(Vec::new(alloc)),
+        Fault::Items(fault) => {
+            let room = start_of(kinds, Track { object, index: 0 });
+            item_spans(alloc, room, object, fault)
+        }
+        Fault::Ticket(_) | Fault::Value(_) => Ok(Vec::new(alloc)),
     }
 }

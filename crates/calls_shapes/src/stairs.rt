@@ -1,11 +1,14 @@
 //! Stairs: numbers that rise by one with each call that a certificate counts.
-ghost use Rattle.std.specs.Prelude.{◌≡◌, IfOk};
-ghost use Rattle.calls_shapes.specs.declared.stairs.Portion.TheVariants.{Called};
+ghost use Rattle.std.specs.Prelude.{◌≡◌, ℕ, ◌==◌, IfOk};
+ghost use Rattle.std.specs.List.{list_any};
+ghost use Rattle.std.specs.List.Sorted.{IsPermutation, IsNonDecreasing};
+ghost use Rattle.calls_shapes.specs.declared.stairs.Portion.TheVariants.{Called, CalledBy};
 ghost use Rattle.calls_shapes.specs.Stairs.{has_completed, has_pending, rises_of, responses_in};
+ghost use Rattle.calls_shapes.specs.Stairs.{gave_up, given_up, is_called_by, invocations_by};
 ghost use Rattle.calls_shapes.specs.Stairs.{IsStair};
 
 use crate::tallies::{CountFilter, counts, invokes_counted_call, is_counted};
-use calls_core::{Call, Event, PendingCall};
+use calls_core::{Call, Event, PendingCall, Reply};
 use calls_report::completed_call;
 use calls_verdict::follow;
 use std::alloc::{AllocError, Global};
@@ -20,6 +23,10 @@ pub enum Portion {
     /// At its response with each that was called at the first position or later and returned
     /// before the second.
     Between(usize, usize),
+    /// At its invocation with each that was called up to a position and did not give up.
+    CalledBy(usize),
+    /// At its response with each that returned up to a position.
+    ReturnedBy(usize),
 }
 
 /// Where a stair begins and ends, and what it counts.
@@ -57,6 +64,8 @@ impl StairSpan {
         match self.portion {
             Portion::Called | Portion::Returned => true,
             Portion::Between(from, before) => from <= call.first && call.last < before,
+            Portion::CalledBy(by) => call.first <= by,
+            Portion::ReturnedBy(by) => call.last <= by,
         }
     }
 
@@ -64,7 +73,11 @@ impl StairSpan {
     pub fn has_pending(&self, call: &PendingCall) -> bool
         ensures { result ≡ has_pending self.now.counted self.now.portion call.now }
     {
-        matches!(self.portion, Portion::Called) && counts(self.counted, call.object, call.op)
+        match self.portion {
+            Portion::Called => counts(self.counted, call.object, call.op),
+            Portion::CalledBy(by) => call.first <= by && counts(self.counted, call.object, call.op),
+            Portion::Returned | Portion::Between(_, _) | Portion::ReturnedBy(_) => false,
+        }
     }
 }
 
@@ -102,6 +115,90 @@ fn responses_of(alloc: Global, events: &[Event], span: StairSpan) -> Result<Vec<
     Ok(positions)
 }
 
+/// Returns whether a completed call gave up that would be counted otherwise.
+fn gave_up(counted: CountFilter, call: &Call) -> bool
+    ensures { result ≡ gave_up counted call.now }
+{
+    counts(counted, call.object, call.op) && matches!(call.reply, Reply::Timeout)
+}
+
+/// Returns the positions of the invocations of the calls that gave up.
+fn given_up(alloc: Global, events: &[Event], counted: CountFilter) -> Result<Vec<usize>, AllocError>
+    ensures { IfOk result (λ v. v.items ≡ given_up counted events.now) }
+{
+    let mut pending = Vec::new(alloc);
+    let mut positions = Vec::new(alloc);
+    for event in events {
+        if let Some(call) = completed_call(&pending, event) {
+            if gave_up(counted, &call) {
+                positions.push(call.first)?;
+            }
+        }
+        let _object = follow(&mut pending, event)?;
+    }
+    Ok(positions)
+}
+
+/// Sorts positions.
+fn in_order(mut positions: Vec<usize>) -> Result<Vec<usize>, AllocError>
+    ensures all { IfOk result (λ v. IsPermutation positions.items v.items) }
+    ensures sorted { IfOk result (λ v. IsNonDecreasing v.items) }
+{
+    positions.sort_by_key(|at| *at)?;
+    Ok(positions)
+}
+
+/// Returns whether one of these positions, in order, is this one.
+fn is_among(positions: &[usize], at: usize) -> bool
+    requires { IsNonDecreasing positions.now }
+    ensures { result ≡ list_any (λ (n : ℕ). n == at) positions.now }
+{
+    positions.binary_search(&at).is_ok()
+}
+
+/// Returns whether an event up to a position is the invocation of a counted call, except for those
+/// at the other positions, in order.
+fn is_called_by(counted: CountFilter, by: usize, others: &[usize], event: &Event) -> bool
+    requires { IsNonDecreasing others.now }
+    ensures { result ≡ is_called_by counted by others.now event.now }
+{
+    invokes_counted_call(counted, event) && event.at <= by && !is_among(others, event.at)
+}
+
+/// Returns the positions up to one of the invocations of counted calls, except for the others, in
+/// order.
+fn invocations_by(
+    alloc: Global,
+    events: &[Event],
+    counted: CountFilter,
+    by: usize,
+    others: &[usize],
+) -> Result<Vec<usize>, AllocError>
+    requires { IsNonDecreasing others.now }
+    ensures { IfOk result (λ v. v.items ≡ invocations_by counted by others.now events.now) }
+{
+    let mut positions = Vec::new(alloc);
+    for event in events {
+        if is_called_by(counted, by, others, event) {
+            positions.push(event.at)?;
+        }
+    }
+    Ok(positions)
+}
+
+/// Returns the positions of the invocations of calls up to one that did not give up.
+fn called_by(
+    alloc: Global,
+    events: &[Event],
+    counted: CountFilter,
+    by: usize,
+) -> Result<Vec<usize>, AllocError>
+    ensures { IfOk result (λ v. v.items ≡ rises_of counted (CalledBy by) events.now) }
+{
+    let others = in_order(given_up(alloc, events, counted)?)?;
+    invocations_by(alloc, events, counted, by, &others)
+}
+
 /// Returns the stair of a course over these events.
 pub fn stair_of(alloc: Global, events: &[Event], span: StairSpan) -> Result<Stair, AllocError>
     ensures { IfOk result (IsStair events.now span) }
@@ -110,6 +207,8 @@ pub fn stair_of(alloc: Global, events: &[Event], span: StairSpan) -> Result<Stai
         Portion::Called => invocations_of(alloc, events, span.counted)?,
         Portion::Returned => responses_of(alloc, events, span)?,
         Portion::Between(_, _) => responses_of(alloc, events, span)?,
+        Portion::CalledBy(by) => called_by(alloc, events, span.counted, by)?,
+        Portion::ReturnedBy(_) => responses_of(alloc, events, span)?,
     };
     Ok(Stair { span, rises })
 }

@@ -6,8 +6,8 @@ ghost use Rattle.calls_shapes.specs.Steps.{steps_of};
 use calls_core::{Kind, Op, Placed, Reply};
 use std::alloc::{AllocError, Global};
 
-/// A number of an object. A bank of semaphores has one for each; any other object has one, at index
-/// 0.
+/// A number of an object. A bank of semaphores has one for each. A buffer has how many items were
+/// taken at index 1, and how many were put in at index 2. Any other object has one, at index 0.
 #[derive(Clone, Copy, Debug, PartialEq, Eq)]
 pub struct Track {
     /// The index of the object.

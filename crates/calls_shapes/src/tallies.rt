@@ -20,6 +20,10 @@ pub enum CountFilter {
     Taking(usize),
     /// Those that add a unit to the semaphore with this index.
     Adding(usize),
+    /// The produces of the buffer with this index.
+    Produces(usize),
+    /// The consumes of the buffer with this index.
+    Consumes(usize),
 }
 
 /// How many calls are counted at a moment.
@@ -47,6 +51,8 @@ pub(crate) fn counts(counted: CountFilter, object: usize, op: Op) -> bool
             Op::V(j) => j == i,
             _ => false,
         },
+        CountFilter::Produces(k) => object == k && matches!(op, Op::Produce(_)),
+        CountFilter::Consumes(k) => object == k && matches!(op, Op::Consume),
     }
 }
 

@@ -112,14 +112,24 @@ fn write_bounds<W: Write>(out: &mut W, bounds: &[Bound]) -> io::Result<()> {
     writeln!(out)
 }
 
+/// Writes why not so many items can be put in or taken.
+fn write_clash<W: Write>(out: &mut W, clash: &Clash) -> io::Result<()> {
+    match clash {
+        Clash::Closed(turn) => writeln!(out, " closed {turn}"),
+        Clash::Few { shortages, others } => {
+            write!(out, " few")?;
+            for shortage in shortages {
+                write!(out, " {}:{}", shortage.at, shortage.turn)?;
+                write!(out, "/{}-{}", shortage.turns, shortage.takers)?;
+                write!(out, "*{}", shortage.item)?;
+            }
+            writeln!(out, " +{others}")
+        }
+    }
+}
+
 /// Writes how many items are put in or taken at least.
-fn write_steps<W: Write>(
-    out: &mut W,
-    flow: Flow,
-    steps: &[Step],
-    turn: usize,
-    clash: Clash,
-) -> io::Result<()> {
+fn write_steps<W: Write>(out: &mut W, flow: Flow, steps: &[Step], clash: &Clash) -> io::Result<()> {
     match flow {
         Flow::In => write!(out, "outrun in")?,
         Flow::Out => write!(out, "outrun out")?,
@@ -138,14 +148,7 @@ fn write_steps<W: Write>(
             }
         }
     }
-    match clash {
-        Clash::Closed => writeln!(out, " closed {turn}"),
-        Clash::Few {
-            item,
-            turns,
-            takers,
-        } => writeln!(out, " few {turn} {item} {turns} {takers}"),
-    }
+    write_clash(out, clash)
 }
 
 /// Writes a fault of a buffer.
@@ -160,12 +163,7 @@ fn write_items<W: Write>(out: &mut W, fault: &calls_buffers::Fault) -> io::Resul
         Fault::Passed { put, consume, .. } => write_named(out, "passed", &[*put, *consume]),
         Fault::Squeezed { full, put, .. } => write_named(out, "squeezed", &[*full, *put]),
         Fault::Overdue { bounds } => write_bounds(out, bounds.as_slice()),
-        Fault::Outrun {
-            flow,
-            steps,
-            turn,
-            clash,
-        } => write_steps(out, *flow, steps.as_slice(), *turn, *clash),
+        Fault::Outrun { flow, steps, clash } => write_steps(out, *flow, steps.as_slice(), clash),
     }
 }
 

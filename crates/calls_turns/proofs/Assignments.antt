@@ -6,12 +6,13 @@ use Rattle.std.specs.Prelude.{◌==◌, ◌&&◌, nat_lt, nat_le}
 use Rattle.std.specs.List.Sorted.{IsPermutation}
 use Rattle.std.proofs.lemmas.Bool.{cases_lt}
 use Rattle.std.proofs.lemmas.Bool.Decides.{nat_tests}
-use Rattle.std.proofs.lemmas.List.{append_assoc, get_or-map, get_or-drop, get_or_default, length-drop}
+use Rattle.std.proofs.lemmas.List.{append_assoc, get_or-map, get_or-drop, get_or_default}
+use Rattle.std.proofs.lemmas.List.{length-drop}
 use Rattle.std.proofs.lemmas.List.{length-map, take-append-drop, nil_from_length}
 use Rattle.std.proofs.lemmas.List.Sorted.{IsPermutation-refl}
 use Rattle.std.proofs.lemmas.List.Sorted.{IsPermutation-append_left, IsPermutation-trans}
 use Rattle.calls_core.specs.Lists.{Each}
-use Rattle.calls_core.proofs.Lists.{each_append, all_from_each}
+use Rattle.calls_core.proofs.Lists.{each_append, each_weaker, all_from_each}
 use Rattle.calls_core.proofs.Filters.{each_from_all}
 use Rattle.calls_core.proofs.Counting.{count_moved, one}
 use Rattle.calls_turns.specs.declared.turn.Turn.{Turn}
@@ -26,12 +27,13 @@ use Rattle.calls_turns.specs.declared.assigning.Outcome.{Outcome}
 use Rattle.calls_turns.specs.declared.assigning.Outcome.TheVariants as outcomes
 use Rattle.calls_turns.specs.Outcomes.{IsOutcome}
 use Rattle.calls_turns.specs.Turns.{MayTake, AreTakenBy, IsTaking}
-use Rattle.calls_turns.specs.Steps.{is_within, IsReason, AreSteps, CantBeTaken}
-use Rattle.calls_turns.specs.Steps.{Refute, IsClash, last_at}
+use Rattle.calls_turns.specs.Steps.{has_none, is_of, is_within, IsReason, AreSteps, last_at}
+use Rattle.calls_turns.specs.Steps.{IsShortage, IsClash, Refute}
+use Rattle.calls_turns.specs.declared.turn.Shortage.{Shortage}
 use Rattle.calls_turns.specs.declared.turn.Clash.{Clash}
 use Rattle.calls_turns.specs.declared.turn.Clash.TheVariants as clashes
 use Rattle.calls_turns.specs.Sweeps.{nobody, no_turn, no_fill, taker_at, turn_at, fill_at, IsFree}
-use Rattle.calls_turns.specs.Sweeps.{AreFilled, IsChain}
+use Rattle.calls_turns.specs.Sweeps.{AreFilled}
 use Rattle.calls_turns.specs.Swept.{AreDemands, demand_at, no_demand, turn_demand, taker_demand}
 use Rattle.calls_turns.specs.Swept.{is_met, fillers, AreSplit, HasCome, AreDueFrom, IsDemand}
 use Rattle.calls_turns.proofs.Filling.{count_from_free, free_from_count, free_below}
@@ -226,7 +228,8 @@ taken end turns takers ds fills next free h filled s met =
           (λ i lt. (let below : i < length fills = omega arith in
           let same : i ≡ 0 + i = omega arith in
           subst (λ n. MayTake (fill_at fills n).demand.at (turn_at turns i)
-          (taker_at (fillers takers fills) i)) same (subst (λ (x : Taker). MayTake (fill_at fills i).demand.at (turn_at turns i) x)
+          (taker_at (fillers takers fills) i)) same
+          (subst (λ (x : Taker). MayTake (fill_at fills i).demand.at (turn_at turns i) x)
           (sym (get_or-map f fills i no_fill nobody below)) (filled.each i below).may)))
           (λ i past lt.
           elim (turn_left end turns takers ds fills (length ds) i h met lt (omega arith)) [
@@ -234,20 +237,6 @@ taken end turns takers ds fills next free h filled s met =
             | inr r ↦ absurd (omega (arith, r.1, r.2))
           ]);
     }
-
--- A DEMAND THAT CAN'T BE MET
-
-pub refuted : (end : ℕ) (turns : List Turn) (takers : List Taker) (k p : ℕ) (ss : List Step)
-    → IsChain end turns takers k p ss → CantBeTaken turns takers p k
-    → Refute end turns takers ss k
-refuted end turns takers k p [] h cant = absurd h
-refuted end turns takers k p (s ∷ ss) h cant =
-    (h.0, subst (λ q. CantBeTaken turns takers q k) (sym h.1) cant, h.2)
-
-pub chain_at : (end : ℕ) (turns : List Turn) (takers : List Taker) (k p : ℕ) (ss : List Step)
-    → IsChain end turns takers k p ss → p ≡ last_at ss
-chain_at end turns takers k p [] h = absurd h
-chain_at end turns takers k p (s ∷ ss) h = sym h.1
 
 -- TAKERS IN ANOTHER ORDER
 
@@ -273,28 +262,34 @@ steps_moved end turns xs ys (s ∷ ss) moved h = (
   steps_moved end turns xs ys ss moved h.1,
 )
 
-cant_moved : (turns : List Turn) (xs ys : List Taker) (p k : ℕ) → IsPermutation xs ys
-    → CantBeTaken turns ys p k → CantBeTaken turns xs p k
-cant_moved turns xs ys p k moved (inl past) = inl past
-cant_moved turns xs ys p k moved (inr (inl closed)) = inr (inl closed)
-cant_moved turns xs ys p k moved (inr (inr h)) = inr (inr (record {
-  turn = h.turn;
-  at = h.at;
-  few = omega (
-    arith,
-    h.few,
-    count_moved (λ (x : Taker). (x.item == h.turn.item) && nat_le x.from p) xs ys moved,
-  );
-}))
+shortage_moved : (turns : List Turn) (xs ys : List Taker) (ss : List Step) (s : Shortage)
+    → IsPermutation xs ys → IsShortage turns ys ss s → IsShortage turns xs ss s
+shortage_moved turns xs ys ss s moved h = record {
+  taken = h.taken;
+  before = h.before;
+  of_item = h.of_item;
+  come = h.come ∙ count_moved (λ (x : Taker). is_of s.item x && nat_le x.from s.at) xs ys moved;
+  few = h.few;
+}
 
-pub refute_moved : (end : ℕ) (turns : List Turn) (xs ys : List Taker) (ss : List Step) (k : ℕ)
-    → IsPermutation xs ys → Refute end turns ys ss k → Refute end turns xs ss k
-refute_moved end turns xs ys [] k moved h = absurd h
-refute_moved end turns xs ys (s ∷ ss) k moved h = (
-  h.0,
-  cant_moved turns xs ys s.at k moved h.1,
-  steps_moved end turns xs ys (s ∷ ss) moved h.2,
-)
+clash_moved : (turns : List Turn) (xs ys : List Taker) (ss : List Step) (c : Clash)
+    → IsPermutation xs ys → IsClash turns ys ss c → IsClash turns xs ss c
+clash_moved turns xs ys ss (clashes.Closed k) moved h = h
+clash_moved turns xs ys ss (clashes.Few shortages others) moved h = record {
+  each = each_weaker (IsShortage turns ys ss) (IsShortage turns xs ss)
+      (λ s. shortage_moved turns xs ys ss s moved) shortages.items h.each;
+  apart = h.apart;
+  come = h.come
+      ∙ count_moved (λ (x : Taker). has_none x.item && nat_le x.from (last_at ss)) xs ys moved;
+  more = h.more;
+}
+
+refute_moved : (end : ℕ) (turns : List Turn) (xs ys : List Taker) (ss : List Step) (c : Clash)
+    → IsPermutation xs ys → Refute end turns ys ss c → Refute end turns xs ss c
+refute_moved end turns xs ys ss c moved h = record {
+  steps = steps_moved end turns xs ys ss moved h.steps;
+  clashes = clash_moved turns xs ys ss c moved h.clashes;
+}
 
 pub taking_moved : (end : ℕ) (turns : List Turn) (xs ys order : List Taker) → IsPermutation xs ys
     → IsTaking end turns ys order → IsTaking end turns xs order
@@ -307,27 +302,13 @@ taking_moved end turns xs ys order moved h = record {
   taken = h.taken;
 }
 
-pub clash_moved : (turns : List Turn) (xs ys : List Taker) (p k : ℕ) (c : Clash)
-    → IsPermutation xs ys → IsClash turns ys p k c → IsClash turns xs p k c
-clash_moved turns xs ys p k clashes.Closed moved h = h
-clash_moved turns xs ys p k (clashes.Few v n m) moved h = record {
-  turn = h.turn;
-  at = h.at;
-  item = h.item;
-  of_item = h.of_item;
-  come = h.come ∙ count_moved (λ (x : Taker). (x.item == v) && nat_le x.from p) xs ys moved;
-  few = h.few;
-}
-
 pub outcome_moved : {E : Type 0} (end : ℕ) (turns : List Turn) (xs ys : List Taker)
     (r : Result Outcome E) → IsPermutation xs ys → IfOk r (IsOutcome end turns ys)
     → IfOk r (IsOutcome end turns xs)
 outcome_moved end turns xs ys (Ok (outcomes.Assigned order)) moved h =
     taking_moved end turns xs ys order.items moved h
-outcome_moved end turns xs ys (Ok (outcomes.Refuted steps turn clash)) moved h = (
-  refute_moved end turns xs ys (reverse steps.items) turn moved h.0,
-  clash_moved turns xs ys (last_at (reverse steps.items)) turn clash moved h.1,
-)
+outcome_moved end turns xs ys (Ok (outcomes.Refuted steps clash)) moved h =
+    refute_moved end turns xs ys (reverse steps.items) clash moved h
 outcome_moved end turns xs ys (Err e) moved h = tt
 
 -- THE BEGINNING

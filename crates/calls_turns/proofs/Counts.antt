@@ -1,8 +1,8 @@
 -- Turns and those who take them: who takes a turn, and how many take turns of an item.
 use Rattle.std.proofs.Common.{◌≡◌, ℕ, zero, suc, ◌+◌, ◌<◌, ◌≤◌, inl, inr, Bool, true, false, List}
-use Rattle.std.proofs.Common.{[], ◌∷◌, length, sym, ◌∙◌, arith, subst, count_by, eqb, take}
+use Rattle.std.proofs.Common.{[], ◌∷◌, length, sym, arith, subst, count_by, eqb, take}
 use Rattle.std.proofs.Common.{Some, slice_get}
-use Rattle.std.proofs.lemmas.Bool.{cases_Bool, eqb-true, eq-eqb}
+use Rattle.std.proofs.lemmas.Bool.{cases_Bool, eq-eqb}
 use Rattle.std.proofs.lemmas.Option.{same_Some, none-some}
 use Rattle.calls_core.specs.Lists.{Each}
 use Rattle.calls_core.proofs.Counting.{one, count_cons, one_yes, one_no}
@@ -10,6 +10,7 @@ use Rattle.calls_turns.specs.declared.turn.Turn.{Turn}
 use Rattle.calls_turns.specs.declared.turn.Taker.{Taker}
 use Rattle.calls_turns.specs.Turns.{MayTake, AreTakenBy}
 use Rattle.calls_turns.specs.Steps.{turns_of}
+use Rattle.calls_turns.specs.Sweeps.{turn_at, taker_at}
 
 pub each_get : {X : Type 0} (P : X → Type 0) (xs : List X) (n : ℕ) (x : X) → Each P xs
     → slice_get xs n ≡ Some x → P x
@@ -41,6 +42,19 @@ module _ (moment : ℕ → ℕ) (end : ℕ) where
   taken_at k (suc n) j (u ∷ ts) (x ∷ xs) t is lt e h =
       taken_at (k + 1) n j ts xs t (omega arith) (omega arith) e h.1
 
+  -- the same by the index of the turn and of who takes it
+  pub taken_by_index : (k i : ℕ) (ts : List Turn) (xs : List Taker) → i < length xs
+      → AreTakenBy moment end k ts xs
+      → MayTake (moment (k + i)) (turn_at ts i) (taker_at xs i)
+  taken_by_index k i ts [] lt h = absurd (omega arith)
+  taken_by_index k i [] (x ∷ xs) lt h = absurd h
+  taken_by_index k zero (t ∷ ts) (x ∷ xs) lt h =
+      (let same : k ≡ k + zero = omega arith in subst (λ j. MayTake (moment j) t x) same h.0)
+  taken_by_index k (suc i) (t ∷ ts) (x ∷ xs) lt h =
+      (let same : k + 1 + i ≡ k + suc i = omega arith in
+      subst (λ j. MayTake (moment j) (turn_at ts i) (taker_at xs i)) same
+      (taken_by_index (k + 1) i ts xs (omega arith) h.1))
+
   -- or it is left
   pub left_at : (k n : ℕ) (ts : List Turn) (xs : List Taker) (t : Turn) → length xs ≤ n
       → slice_get ts n ≡ Some t → AreTakenBy moment end k ts xs → end ≤ t.by
@@ -64,27 +78,18 @@ turns_rise (t ∷ ts) v (suc a) (suc n) le =
 
 module _ (moment : ℕ → ℕ) (end v : ℕ) (w : Taker → Bool) where
   -- each who passes takes a turn of the item
-  one_taken : (p : ℕ) (t : Turn) (x : Taker) → ((y : Taker) → w y ≡ true → y.item ≡ v)
+  one_taken : (p : ℕ) (t : Turn) (x : Taker) → ((y : Taker) → w y ≡ true → y.item ≡ Some v)
       → MayTake p t x → one (w x) ≤ one (eqb t.item v)
   one_taken p t x of may =
       elim (cases_Bool (w x)) [
-        | inl passed ↦ (let same : t.item ≡ v = sym may.item ∙ of x passed in
+        | inl passed ↦ (let same : t.item ≡ v = sym (may.item v (of x passed)) in
             omega (arith, one_yes (w x) passed, one_yes (eqb t.item v) (eq-eqb t.item v same)))
         | inr failed ↦ omega (arith, one_no (w x) failed)
       ]
 
-  one_passes : (p : ℕ) (t : Turn) (x : Taker) → (x.from ≤ p → x.item ≡ v → w x ≡ true)
-      → MayTake p t x → one (eqb t.item v) ≤ one (w x)
-  one_passes p t x passes may =
-      elim (cases_Bool (eqb t.item v)) [
-        | inl passed ↦ (let same : x.item ≡ v = may.item ∙ eqb-true t.item v passed in
-            omega (arith, one_yes (w x) (passes may.from same), one_yes (eqb t.item v) passed))
-        | inr failed ↦ omega (arith, one_no (eqb t.item v) failed)
-      ]
-
   -- those who take the first a turns do not pass, nor do those after the first n
   pub count_between : (k a n : ℕ) (ts : List Turn) (xs : List Taker) → a ≤ n
-      → ((y : Taker) → w y ≡ true → y.item ≡ v)
+      → ((y : Taker) → w y ≡ true → y.item ≡ Some v)
       → ((j : ℕ) (y : Taker) → k ≤ j → j < k + a → y.from ≤ moment j → w y ≡ false)
       → ((j : ℕ) (y : Taker) → k + n ≤ j → j < k + length xs → moment j ≤ y.by → w y ≡ false)
       → AreTakenBy moment end k ts xs → count_by w xs + turns_of ts v a ≤ turns_of ts v n
@@ -117,20 +122,4 @@ module _ (moment : ℕ → ℕ) (end v : ℕ) (w : Taker → Bool) where
     count_between (k + 1) a n ts xs (omega arith) of
         (λ j y low lt from. early j y (omega arith) (omega arith) from)
         (λ j y from lt by. late j y (omega arith) (omega arith) by) h.1,
-  )
-
-  -- those who take the first n turns pass, if these are of the item
-  pub count_upto : (k n : ℕ) (ts : List Turn) (xs : List Taker) → n ≤ length xs
-      → ((j : ℕ) (y : Taker) → j < k + n → y.from ≤ moment j → y.item ≡ v → w y ≡ true)
-      → AreTakenBy moment end k ts xs → turns_of ts v n ≤ count_by w xs
-  count_upto k zero ts xs le passes h = omega arith
-  count_upto k (suc n) ts [] le passes h = absurd (omega arith)
-  count_upto k (suc n) [] (x ∷ xs) le passes h = absurd h
-  count_upto k (suc n) (t ∷ ts) (x ∷ xs) le passes h = omega (
-    arith,
-    count_cons w x xs,
-    turns_more t ts v n,
-    one_passes (moment k) t x (λ from is. passes k x (omega arith) from is) h.0,
-    count_upto (k + 1) n ts xs (omega arith)
-        (λ j y lt from is. passes j y (omega arith) from is) h.1,
   )

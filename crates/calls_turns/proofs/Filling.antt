@@ -1,27 +1,27 @@
 -- Takers who take turns or are free, and fills, one more each time.
 use Rattle.std.proofs.Common.{◌≡◌, ℕ, zero, suc, ◌+◌, ◌<◌, ◌≤◌, inl, inr, Bool, true, false}
 use Rattle.std.proofs.Common.{List, [], ◌∷◌, ◌++◌, refl, ap, sym, ◌∙◌, arith, cond, subst, count_by}
-use Rattle.std.proofs.Common.{get_or, length, map, take, drop, below_more, not, Option, None, Some}
-use Rattle.std.specs.Prelude.{◌==◌, ◌&&◌, nat_eq, nat_lt, nat_le}
+use Rattle.std.proofs.Common.{get_or, length, map, take, below_more, not, Option, None, Some}
+use Rattle.std.proofs.Common.{MatchOption}
+use Rattle.std.specs.Prelude.{◌==◌, nat_eq, nat_lt}
 use Rattle.std.specs.Option.{IfNone}
 use Rattle.std.specs.List.{Contains, IsAnyAnswer, swap_remove}
 use Rattle.std.specs.List.Sorted.{IsPermutation}
 use Rattle.std.proofs.lemmas.Bool.{cases_lt}
 use Rattle.std.proofs.lemmas.Bool.Decides.{Decides-eqb, nat_tests}
 use Rattle.std.proofs.lemmas.List.{append_assoc, map_push, take_more, get_or_append_left, get_or_at}
-use Rattle.std.proofs.lemmas.List.{get_or-drop, get_or-map, length-drop, length-map, length_push}
-use Rattle.std.proofs.lemmas.List.{get_or_default}
+use Rattle.std.proofs.lemmas.List.{length_push}
 use Rattle.std.proofs.lemmas.List.Elements.{All-from_all_within}
-use Rattle.std.proofs.lemmas.Option.{slice_get-get_or}
+use Rattle.std.proofs.lemmas.Option.{slice_get-get_or, same_Some, none-some}
 use Rattle.std.proofs.lemmas.List.Elements.{Contains-append_left, Contains-push}
 use Rattle.std.proofs.lemmas.List.Sums.{get_or-le-sum_by, sum_by_push, sum_by-swap_remove}
-use Rattle.std.proofs.lemmas.List.Sums.{sum_by-take-drop, sum_by-le-sum_by, count_by_more_yes}
 use Rattle.std.proofs.lemmas.List.Sorted.{IsPermutation-append_left, IsPermutation-pop_more}
-use Rattle.std.proofs.lemmas.List.Sorted.{All-permutation, IsPermutation-map, IsPermutation-swap_remove}
+use Rattle.std.proofs.lemmas.List.Sorted.{All-permutation, IsPermutation-map}
+use Rattle.std.proofs.lemmas.List.Sorted.{IsPermutation-swap_remove}
 use Rattle.calls_core.specs.Lists.{Each}
 use Rattle.calls_core.proofs.Lists.{each_append, all_from_each}
 use Rattle.calls_core.proofs.Filters.{each_from_all}
-use Rattle.calls_core.proofs.Counting.{count_cons, count_append, count_moved, count_none}
+use Rattle.calls_core.proofs.Counting.{count_cons, count_none}
 use Rattle.calls_core.proofs.Counting.{one, one_yes, one_no}
 use Rattle.calls_turns.specs.declared.turn.Turn.{Turn}
 use Rattle.calls_turns.specs.declared.turn.Taker.{Taker}
@@ -30,13 +30,13 @@ use Rattle.calls_turns.specs.declared.demand.Fill.{Fill}
 use Rattle.calls_turns.specs.declared.demand.Target.{Target}
 use Rattle.calls_turns.specs.declared.demand.Target.TheVariants as targets
 use Rattle.calls_turns.specs.Turns.{MayTake}
-use Rattle.calls_turns.specs.Steps.{turns_of, IsLacking, CantBeTaken}
 use Rattle.calls_turns.specs.Sweeps.{nobody, no_turn, no_fill, taker_at, turn_at, fill_at}
-use Rattle.calls_turns.specs.Sweeps.{IsFree, IsTargetDue, IsUnmet, IsFilled}
-use Rattle.calls_turns.specs.Sweeps.{AreFilled}
+use Rattle.calls_turns.specs.Sweeps.{IsFree, IsTargetDue, IsUnmet, IsFilled, NoneLeft}
+use Rattle.calls_turns.specs.Sweeps.{AreFilled, CantBeTaken}
 use Rattle.calls_turns.specs.Swept.{IsTarget, HaveTurns, HaveTakers, turn_demand}
 use Rattle.calls_turns.specs.Swept.{taker_demand, is_met, fillers, AreSplit, HasCome, AreDueFrom}
-use Rattle.calls_turns.specs.Swept.{AreLater, free_at, IsFirstDue, IsChoice}
+use Rattle.calls_turns.specs.Swept.{AreLater, free_at, IsChoice, IsChosen, NobodyChosen}
+use Rattle.calls_turns.proofs.Tallies.{one_most}
 
 -- COUNTS
 
@@ -59,21 +59,6 @@ count_found {X} p (x ∷ xs) h =
           let r = count_found p xs (omega (arith, count_cons p x xs, one_no (p x) e, h)) in
           (suc r.0, (let lt : suc r.0 < length (x ∷ xs) = omega (arith, r.1) in lt), r.2)
     ] refl
-
--- as many pass in one list as in the first elements of another, if they pass alike
-pub count_same : {X Y : Type 0} (p : X → Bool) (q : Y → Bool) (xs : List X) (ys : List Y) (d : X)
-    (e : Y) → length xs ≤ length ys
-    → ((i : ℕ) → i < length xs → p (get_or xs i d) ≡ q (get_or ys i e))
-    → count_by p xs ≡ count_by q (take (length xs) ys)
-count_same p q [] ys d e le h = refl
-count_same p q (x ∷ xs) [] d e le h = absurd (omega arith)
-count_same p q (x ∷ xs) (y ∷ ys) d e le h = omega (
-  arith,
-  count_cons p x xs,
-  count_cons q y (take (length xs) ys),
-  ap one (h zero (omega arith)),
-  count_same p q xs ys d e (omega arith) (λ i lt. h (suc i) (omega arith)),
-)
 
 -- WHO IS FREE
 
@@ -102,10 +87,6 @@ one_below j next h = grind (arith, nat_tests)
 
 one_above : (j next : ℕ) → j < next → one (nat_lt j next) ≡ 1
 one_above j next h = grind (arith, nat_tests)
-
-one_most : (b : Bool) → one b ≤ 1
-one_most true = omega arith
-one_most false = omega arith
 
 one_more : (j next : ℕ) → one (nat_lt j (next + 1)) ≡ one (nat_lt j next) + one (nat_eq next j)
 one_more j next = grind (arith, nat_tests)
@@ -253,98 +234,47 @@ each_moved P xs ys moved h =
 
 -- NOBODY TAKES THE NEXT TURN
 
-both_less : (a b : Bool) → one (a && b) ≤ one a
-both_less true true = omega arith
-both_less true false = omega arith
-both_less false b = omega arith
+-- who is left is among the free ones
+pub none_among : (takers : List Taker) (fills : List Fill) (next : ℕ) (free : List ℕ) (p : ℕ)
+    (item : Option ℕ) → AreSplit takers fills next free → AreLater takers next p
+    → IsChoice takers free item (length free) None
+    → NoneLeft takers fills (length fills) p item
+none_among takers fills next free p item s later none = λ j lt left is from.
+    elim (cases_lt j next) [
+      | inl before ↦
+          let r = found_free takers fills next free s j before left in
+          none r.0 r.1 (ap (λ n. (taker_at takers n).item) r.2 ∙ is)
+      | inr past ↦ absurd (omega (arith, later j past lt))
+    ]
 
-not_both : (a : Bool) (n p : ℕ) → p < n → (a && nat_le n p) ≡ false
-not_both true n p lt = grind (arith, nat_tests)
-not_both false n p lt = refl
+none_of : (turns : List Turn) (takers : List Taker) (fills : List Fill) (next : ℕ) (free : List ℕ)
+    (p v : ℕ) (r : Option ℕ) → AreSplit takers fills next free → AreLater takers next p
+    → length fills < length turns → v ≡ (turn_at turns (length fills)).item
+    → MatchOption r (NobodyChosen takers free v) (λ place. IsChosen takers free v place)
+    → IfNone r (CantBeTaken turns takers fills p (length fills))
+none_of turns takers fills next free p v None s later lt e none =
+    inr (inr (record {
+      there = lt;
+      of_item = subst (λ n. NoneLeft takers fills (length fills) p (Some n)) e
+          (none_among takers fills next free p (Some v) s later none.0);
+      of_any = none_among takers fills next free p None s later none.1;
+    }))
+none_of turns takers fills next free p v (Some place) s later lt e chosen = tt
 
-not_eq : (a b : ℕ) → (a ≡ b → ⊥) → (a == b) ≡ false
-not_eq a b h = grind (arith, nat_tests)
+pub none_chosen : (turns : List Turn) (takers : List Taker) (fills : List Fill) (next : ℕ)
+    (free : List ℕ) (p k : ℕ) (r : Option ℕ) → AreSplit takers fills next free
+    → AreLater takers next p → k ≡ length fills → k < length turns
+    → MatchOption r (NobodyChosen takers free (turn_at turns k).item)
+    (λ place. IsChosen takers free (turn_at turns k).item place)
+    → IfNone r (CantBeTaken turns takers fills p (length fills))
+none_chosen turns takers fills next free p k r s later e lt choice =
+    none_of turns takers fills next free p (turn_at turns k).item r s later (omega arith)
+    (ap (λ n. (turn_at turns n).item) e) choice
 
-pub items_taken : (end : ℕ) (turns : List Turn) (takers : List Taker) (fills : List Fill) (v : ℕ)
-    → AreFilled end turns takers fills → length fills ≤ length turns
-    → count_by (λ (x : Taker). x.item == v) (fillers takers fills)
-    ≡ turns_of turns v (length fills)
-items_taken end turns takers fills v h le =
-    let len : length (fillers takers fills) ≡ length fills =
-    length-map fills (λ (f : Fill). taker_at takers f.taker) in
-    subst (λ n. count_by (λ (x : Taker). x.item == v) (fillers takers fills)
-    ≡ count_by (λ (t : Turn). t.item == v) (take n turns)) len
-    (count_same (λ (x : Taker). x.item == v) (λ (t : Turn). t.item == v) (fillers takers fills)
-    turns nobody no_turn (omega arith) (λ i lt.
-    let below : i < length fills = omega arith in
-    ap (λ (x : Taker). x.item == v)
-    (get_or-map (λ (f : Fill). taker_at takers f.taker) fills i no_fill nobody below)
-    ∙ ap (λ n. n == v) (h.each i below).may.item))
-
-pub lacking : (end : ℕ) (turns : List Turn) (takers : List Taker) (fills : List Fill) (next : ℕ)
-    (free : List ℕ) (p : ℕ) → AreFilled end turns takers fills → AreSplit takers fills next free
-    → AreLater takers next p → length fills < length turns
-    → ((i : ℕ) → i < length free
-    → (free_at takers free i).item ≡ (turn_at turns (length fills)).item → ⊥)
-    → IsLacking turns takers p (length fills)
-lacking end turns takers fills next free p h s later lt none =
-    let turn : Turn = turn_at turns (length fills) in
-    let v : ℕ = turn.item in
-    let q : Taker → Bool = λ (x : Taker). (x.item == v) && nat_le x.from p in
-    let r : Taker → Bool = λ (x : Taker). x.item == v in
-    let past : count_by q (drop next takers) ≡ 0 =
-    count_none q (drop next takers) (λ k d within.
-    let far : next + k < length takers = omega (arith, length-drop next takers) in
-    let same : get_or (drop next takers) k d ≡ taker_at takers (next + k) =
-    get_or-drop next takers k d ∙ get_or_default takers (next + k) d nobody far in
-    ap q same ∙ not_both ((taker_at takers (next + k)).item == v)
-    (taker_at takers (next + k)).from p (later (next + k) (omega arith) far)) in
-    let left : count_by r (map (taker_at takers) free) ≡ 0 =
-    count_none r (map (taker_at takers) free) (λ k d within.
-    let below : k < length free = omega (arith, length-map free (taker_at takers)) in
-    ap r (get_or-map (taker_at takers) free k 0 d below)
-    ∙ not_eq (free_at takers free k).item v (none k below)) in
-    record {
-      turn = turn;
-      at = slice_get-get_or turns (length fills) no_turn lt;
-      few = omega (
-        arith,
-        sum_by-take-drop (λ x. cond (q x) 1 0) takers next,
-        past,
-        sum_by-le-sum_by (λ x. cond (q x) 1 0) (λ x. cond (r x) 1 0) (take next takers)
-            (λ x. both_less (x.item == v) (nat_le x.from p)),
-        count_moved r (take next takers) (fillers takers fills ++ map (taker_at takers) free)
-            s.all,
-        count_append r (fillers takers fills) (map (taker_at takers) free),
-        left,
-        items_taken end turns takers fills v h (omega arith),
-        count_by_more_yes (λ (t : Turn). t.item == v) turns (length fills) no_turn lt
-            ((Decides-eqb v v).1 refl),
-      );
-    }
-
-none_of : (end : ℕ) (turns : List Turn) (takers : List Taker) (fills : List Fill) (next : ℕ)
-    (free : List ℕ) (p : ℕ) (r : Option ℕ) → AreFilled end turns takers fills
-    → AreSplit takers fills next free → AreLater takers next p → length fills < length turns
-    → IsChoice takers free (turn_at turns (length fills)).item (length free) r
-    → IfNone r (CantBeTaken turns takers p (length fills))
-none_of end turns takers fills next free p None h s later lt none =
-    inr (inr (lacking end turns takers fills next free p h s later lt none))
-none_of end turns takers fills next free p (Some place) h s later lt first = tt
-
-pub none_chosen : (end : ℕ) (turns : List Turn) (takers : List Taker) (fills : List Fill) (next : ℕ)
-    (free : List ℕ) (p k : ℕ) (r : Option ℕ) → AreFilled end turns takers fills
-    → AreSplit takers fills next free → AreLater takers next p → k ≡ length fills
-    → k < length turns → IsChoice takers free (turn_at turns k).item (length free) r
-    → IfNone r (CantBeTaken turns takers p (length fills))
-none_chosen end turns takers fills next free p k r h s later e lt choice =
-    none_of end turns takers fills next free p r h s later (omega arith)
-    (subst (λ n. IsChoice takers free (turn_at turns n).item (length free) r) e choice)
-
-pub closed : (turns : List Turn) (takers : List Taker) (p k n : ℕ) → k ≡ n → k < length turns
-    → p < (turn_at turns k).from → CantBeTaken turns takers p n
-closed turns takers p k n e lt before =
-    subst (λ m. CantBeTaken turns takers p m) e
+pub closed : (turns : List Turn) (takers : List Taker) (fills : List Fill) (p k n : ℕ) → k ≡ n
+    → k < length turns → p < (turn_at turns k).from → CantBeTaken turns takers fills p n
+closed turns takers fills p k n e lt before =
+    subst (λ m. CantBeTaken turns takers fills p m) e
     (inr (inl (record {
       turn = turn_at turns k;
       at = slice_get-get_or turns k no_turn lt;
@@ -362,9 +292,11 @@ record IsFill (end : ℕ) (turns : List Turn) (takers : List Taker) (fills : Lis
   may : MayTake f.demand.at (turn_at turns k) (taker_at takers f.taker)
   free : IsFree fills k f.taker
   preferred : (j : ℕ) → j < length takers → IsFree fills k j
-      → (taker_at takers j).item ≡ (turn_at turns k).item
+      → (taker_at takers j).item ≡ Some (turn_at turns k).item
       → (taker_at takers j).from ≤ f.demand.at
       → (taker_at takers f.taker).by ≤ (taker_at takers j).by
+  none_left : (taker_at takers f.taker).item ≡ None
+      → NoneLeft takers fills k f.demand.at (Some (turn_at turns k).item)
 
 abbrev SameBelow : List Fill → List Fill → ℕ → Type 0
 SameBelow a b k = (i : ℕ) → i < k → fill_at a i ≡ fill_at b i
@@ -391,6 +323,8 @@ fill_as end turns takers a b k f same h = record {
   free = free_as a b k f.taker same h.free;
   preferred = λ j within free. h.preferred j within
       (free_as b a k j (λ i lt. sym (same i lt)) free);
+  none_left = λ is j within free. h.none_left is j within
+      (free_as b a k j (λ i lt. sym (same i lt)) free);
 }
 
 filled_at : (end : ℕ) (turns : List Turn) (takers : List Taker) (a b : List Fill) (k : ℕ) (f : Fill)
@@ -406,6 +340,7 @@ filled_at end turns takers a b k f same e h =
       may = g.may;
       free = g.free;
       preferred = g.preferred;
+      none_left = g.none_left;
     }
 
 fill_of : (end : ℕ) (turns : List Turn) (takers : List Taker) (fills : List Fill) (k : ℕ)
@@ -417,6 +352,7 @@ fill_of end turns takers fills k h = record {
   may = h.may;
   free = h.free;
   preferred = h.preferred;
+  none_left = h.none_left;
 }
 
 fill_before : (fills : List Fill) (f : Fill) (i : ℕ) → i < length fills
@@ -470,43 +406,71 @@ filled_more end turns takers fills f h new until =
       ];
     }
 
+-- who is chosen
+pub chosen_within : (takers : List Taker) (free : List ℕ) (v place : ℕ)
+    → IsChosen takers free v place → place < length free
+chosen_within takers free v place (inl first) = first.within
+chosen_within takers free v place (inr h) = h.1.within
+
+chosen_item : (takers : List Taker) (free : List ℕ) (v place w : ℕ)
+    → IsChosen takers free v place → (free_at takers free place).item ≡ Some w → w ≡ v
+chosen_item takers free v place w (inl first) e = same_Some w v (sym e ∙ first.of_item)
+chosen_item takers free v place w (inr h) e = absurd (none-some w (sym h.1.of_item ∙ e))
+
+chosen_least : (takers : List Taker) (free : List ℕ) (v place i : ℕ)
+    → IsChosen takers free v place → i < length free → (free_at takers free i).item ≡ Some v
+    → (free_at takers free place).by ≤ (free_at takers free i).by
+chosen_least takers free v place i (inl first) lt e = first.least i lt e
+chosen_least takers free v place i (inr h) lt e = absurd (h.0 i lt e)
+
+chosen_last : (takers : List Taker) (free : List ℕ) (v place : ℕ)
+    → IsChosen takers free v place → (free_at takers free place).item ≡ None
+    → IsChoice takers free (Some v) (length free) None
+chosen_last takers free v place (inl first) e = absurd (none-some v (sym e ∙ first.of_item))
+chosen_last takers free v place (inr h) e = h.0
+
 pub filled_next : (end : ℕ) (turns : List Turn) (takers : List Taker) (fills : List Fill)
     (next : ℕ) (free : List ℕ) (d : Demand) (place x : ℕ) → AreFilled end turns takers fills
     → AreSplit takers fills next free → HasCome takers fills next d.at
     → AreDueFrom turns takers fills d.at → AreLater takers next d.at
     → IsUnmet end turns takers fills (length fills) d → length fills < length turns
     → (turn_at turns (length fills)).from ≤ d.at
-    → IsFirstDue takers free (turn_at turns (length fills)).item (length free) place
+    → IsChosen takers free (turn_at turns (length fills)).item place
     → x ≡ get_or free place 0
     → (let f : Fill = record { taker = x; demand = d } in
     AreFilled end turns takers (fills ++ f ∷ []))
-filled_next end turns takers fills next free d place x h s come due later unmet lt from first e =
+filled_next end turns takers fills next free d place x h s come due later unmet lt from chosen e =
     let k : ℕ = length fills in
+    let v : ℕ = (turn_at turns k).item in
+    let inside : place < length free = chosen_within takers free v place chosen in
     let j : ℕ = get_or free place 0 in
     let f : Fill = record { taker = j; demand = d } in
-    let below : j < next = free_below takers fills next free s place first.within in
+    let below : j < next = free_below takers fills next free s place inside in
     let within : j < length takers = omega (arith, s.within) in
-    let none : IsFree fills k j = none_for_free takers fills next free s place first.within in
+    let none : IsFree fills k j = none_for_free takers fills next free s place inside in
     let fit : IsFill end turns takers fills k f = record {
       turn = lt;
       taker = within;
       unmet = unmet;
       may = record {
-        item = first.of_item;
+        item = λ w is. chosen_item takers free v place w chosen is;
         turn_from = from;
         turn_by = due.turns_due k (omega arith) lt;
         from = come.came j below;
         by = due.takers_due j within none;
       };
       free = none;
-      preferred = λ i inside free_i item early.
+      preferred = λ i there free_i item early.
           elim (cases_lt i next) [
             | inl before ↦
                 let r = found_free takers fills next free s i before free_i in
                 subst (λ n. (taker_at takers j).by ≤ (taker_at takers n).by) r.2
-                (first.least r.0 r.1 (ap (λ n. (taker_at takers n).item) r.2 ∙ item))
-            | inr past ↦ absurd (omega (arith, later i past inside))
+                (chosen_least takers free v place r.0 chosen r.1
+                (ap (λ n. (taker_at takers n).item) r.2 ∙ item))
+            | inr past ↦ absurd (omega (arith, later i past there))
           ];
+      none_left = λ is. none_among takers fills next free d.at (Some v) s later
+          (chosen_last takers free v place chosen is);
     } in
     subst (λ n. (let g : Fill = record { taker = n; demand = d } in
     AreFilled end turns takers (fills ++ g ∷ []))) (sym e)

@@ -1,5 +1,8 @@
 pub mod Counts
+pub mod Tallies
 pub mod Lasting
 pub mod Stretches
+pub mod Leads
+pub mod Shortfalls
 pub mod Filling
 pub mod Assignments

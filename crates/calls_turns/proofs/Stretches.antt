@@ -1,24 +1,28 @@
 -- Steps to a demand that is not met.
 use Rattle.std.proofs.Common.{◌≡◌, ℕ, zero, suc, ◌+◌, ◌-◌, ◌<◌, ◌≤◌, inl, inr}
 use Rattle.std.proofs.Common.{Bool, true, false, ◌&&◌}
-use Rattle.std.proofs.Common.{List, [], ◌∷◌, ◌++◌, sym, ◌∙◌, arith, get_or, set, length, take}
+use Rattle.std.proofs.Common.{List, ap, sym, ◌∙◌, arith, get_or, set, length}
 use Rattle.std.proofs.Common.{subst, count_by, cond, eqb, Option, Some, None, refl}
 use Rattle.std.specs.Prelude.{IfSome, nat_le}
 use Rattle.std.proofs.lemmas.Bool.{cases_lt, cases_eq, le-leb, lt-ltb, eq-eqb, ne_eqb}
 use Rattle.std.proofs.lemmas.Bool.{and_from, and_left}
 use Rattle.std.proofs.lemmas.List.{get_or-set_other, length-set}
 use Rattle.std.proofs.lemmas.List.Sums.{sum_by_more, sum_by-set}
-use Rattle.calls_core.proofs.Counting.{one, count_cons, one_yes, one_no}
+use Rattle.calls_core.proofs.Lists.{all_from_each}
+use Rattle.calls_core.proofs.Counting.{one, one_yes, one_no}
 use Rattle.calls_turns.specs.declared.turn.Turn.{Turn}
 use Rattle.calls_turns.specs.declared.turn.Taker.{Taker}
 use Rattle.calls_turns.specs.declared.turn.Step.{Step}
 use Rattle.calls_turns.specs.declared.turn.Reason.TheVariants.{Takers}
 use Rattle.calls_turns.specs.declared.demand.Fill.{Fill}
 use Rattle.calls_turns.specs.declared.chaining.Stretch.{Stretch}
-use Rattle.calls_turns.specs.Steps.{turns_of, is_later, is_within, reached_after}
-use Rattle.calls_turns.specs.Steps.{AreSteps, AreTooMany}
-use Rattle.calls_turns.specs.Sweeps.{taker_at, turn_at, fill_at, nobody, no_turn, IsFree}
-use Rattle.calls_turns.specs.Sweeps.{AreFilled, IsTakerDue, IsChain}
+use Rattle.calls_turns.specs.Turns.{OthersNotDue}
+use Rattle.calls_turns.specs.Steps.{is_of, turns_of, is_later, is_within, reached_after}
+use Rattle.calls_turns.specs.Steps.{AreTooMany}
+use Rattle.calls_turns.specs.Sweeps.{taker_at, turn_at, fill_at, filler, nobody, no_turn, IsFree}
+use Rattle.calls_turns.specs.Sweeps.{AreFilled, IsTakerDue}
+use Rattle.calls_turns.proofs.Counts.{turns_rise}
+use Rattle.calls_turns.proofs.Tallies.{item_yes}
 use Rattle.calls_turns.specs.Chains.{after, position_of, IsBarrier, IsStretch, Reaches, IsLink}
 
 -- COUNTS
@@ -45,19 +49,6 @@ other_turn_more turns v k lt ne =
       arith,
       turn_more turns v k lt,
       one_no (eqb (turn_at turns k).item v) (ne_eqb (turn_at turns k).item v ne),
-    )
-
--- more of the turns
-turns_le : (turns : List Turn) (v k n : ℕ) → k ≤ n → turns_of turns v k ≤ turns_of turns v n
-turns_le turns v zero n le = omega arith
-turns_le turns v (suc k) zero le = absurd (omega arith)
-turns_le [] v (suc k) (suc n) le = omega arith
-turns_le (t ∷ ts) v (suc k) (suc n) le =
-    omega (
-      arith,
-      count_cons (λ (u : Turn). eqb u.item v) t (take k ts),
-      count_cons (λ (u : Turn). eqb u.item v) t (take n ts),
-      turns_le ts v k n (omega arith),
     )
 
 -- one of those that pass is replaced by one that does not
@@ -129,7 +120,7 @@ passing_counted {X} p d y turns v low (suc n) g xs fails le apart h =
 came_after : (end : ℕ) (turns : List Turn) (takers : List Taker) (fills : List Fill)
     (v p b j : ℕ) → AreFilled end turns takers fills → b < length fills
     → IsBarrier turns takers fills v p b → j < length takers → IsFree fills b j
-    → (taker_at takers j).item ≡ v → (taker_at takers j).by ≤ p
+    → (taker_at takers j).item ≡ Some v → (taker_at takers j).by ≤ p
     → (fill_at fills b).demand.at < (taker_at takers j).from
 came_after end turns takers fills v p b j h lt barrier within free item due =
     elim (cases_lt (fill_at fills b).demand.at (taker_at takers j).from) [
@@ -138,14 +129,14 @@ came_after end turns takers fills v p b j h lt barrier within free item due =
         arith,
         barrier.later,
         due,
-        (h.each b lt).preferred j within free (item ∙ sym barrier.item) le,
+        (h.each b lt).preferred j within free (item ∙ ap Some (sym barrier.item)) le,
       ))
     ]
 
-within_stretch : (v p : ℕ) (since : Option ℕ) (x : Taker) → x.item ≡ v → x.by ≤ p
+within_stretch : (v p : ℕ) (since : Option ℕ) (x : Taker) → x.item ≡ Some v → x.by ≤ p
     → IfSome since (λ q. q < x.from) → is_within v since p x ≡ true
 within_stretch v p since x item due later =
-    and_from (eqb x.item v) (is_later since x.from && nat_le x.by p) (eq-eqb x.item v item)
+    and_from (is_of v x) (is_later since x.from && nat_le x.by p) (item_yes x.item v item)
     (and_from (is_later since x.from) (nat_le x.by p) (
     elim since as (λ o. IfSome o (λ q. q < x.from) → is_later o x.from ≡ true) [
       | None ↦ λ none. refl
@@ -157,7 +148,7 @@ within_stretch v p since x item due later =
 taker_within : (end : ℕ) (turns : List Turn) (takers : List Taker) (fills : List Fill)
     (v p j : ℕ) (barrier : Option ℕ) → AreFilled end turns takers fills
     → after barrier ≤ length fills → IfSome barrier (IsBarrier turns takers fills v p)
-    → j < length takers → IsFree fills (after barrier) j → (taker_at takers j).item ≡ v
+    → j < length takers → IsFree fills (after barrier) j → (taker_at takers j).item ≡ Some v
     → (taker_at takers j).by ≤ p
     → is_within v (position_of fills barrier) p (taker_at takers j) ≡ true
 taker_within end turns takers fills v p j None h to is within free item due =
@@ -172,16 +163,39 @@ turns_there : (end : ℕ) (turns : List Turn) (takers : List Taker) (fills : Lis
 turns_there end turns takers fills zero h to = omega arith
 turns_there end turns takers fills (suc k) h to = (h.each k (omega arith)).turn
 
+some_item : (o : Option ℕ) → (o ≡ None → ⊥) → (w : ℕ) × (o ≡ Some w)
+some_item None h = absurd (h refl)
+some_item (Some w) h = (w, refl)
+
+-- who is due has an item
+pub due_item : (end : ℕ) (takers : List Taker) (j : ℕ) → OthersNotDue end takers
+    → j < length takers → (taker_at takers j).by < end
+    → (w : ℕ) × ((taker_at takers j).item ≡ Some w)
+due_item end takers j others lt due = some_item (taker_at takers j).item (λ e.
+    absurd (omega (
+      arith,
+      all_from_each (λ (x : Taker). x.item ≡ None → end ≤ x.by) takers others j nobody lt e,
+    )))
+
+-- who takes a turn of an item, and is due, is of the item
+filler_item : (end : ℕ) (turns : List Turn) (takers : List Taker) (fills : List Fill) (i v : ℕ)
+    → AreFilled end turns takers fills → OthersNotDue end takers → i < length fills
+    → (filler takers fills i).by < end → (turn_at turns i).item ≡ v
+    → (filler takers fills i).item ≡ Some v
+filler_item end turns takers fills i v h others lt due same =
+    let r = due_item end takers (fill_at fills i).taker others (h.each i lt).taker due in
+    r.1 ∙ ap Some ((h.each i lt).may.item r.0 r.1 ∙ same)
+
 -- the takers of a stretch, with one who is due and took none of its turns
 stretch_counted : (end : ℕ) (turns : List Turn) (takers : List Taker) (fills : List Fill)
-    (v p k j : ℕ) (s : Stretch) → AreFilled end turns takers fills → k ≤ length fills
-    → IsStretch turns takers fills v p k s → IsTakerDue takers fills k p j
-    → (taker_at takers j).item ≡ v
+    (v p k j : ℕ) (s : Stretch) → AreFilled end turns takers fills → OthersNotDue end takers
+    → p < end → k ≤ length fills → IsStretch turns takers fills v p k s
+    → IsTakerDue takers fills k p j → (taker_at takers j).item ≡ Some v
     → s.takers ≤ count_by (is_within v (position_of fills s.barrier) p) takers
-stretch_counted end turns takers fills v p k j s h to is due item =
+stretch_counted end turns takers fills v p k j s h others before to is due item =
     let low : ℕ = after s.barrier in
     let pass : Taker → Bool = is_within v (position_of fills s.barrier) p in
-    let other : Taker = record { call = 0; item = suc v; from = 0; by = 0 } in
+    let other : Taker = record { call = 0; item = Some (suc v); from = 0; by = 0 } in
     let fails : pass other ≡ false =
     and_left (eqb (suc v) v) (is_later (position_of fills s.barrier) 0 && nat_le 0 p)
     (ne_eqb (suc v) v (λ e. absurd (omega (arith, e)))) in
@@ -203,7 +217,9 @@ stretch_counted end turns takers fills v p k j s h to is due item =
           (sym (get_or-set_other takers j (g i) other nobody (due.free i (omega arith))))
           (taker_within end turns takers fills v p (g i) s.barrier h (omega arith) is.barrier
           (h.each i (omega arith)).taker (λ a less. (h.each i (omega arith)).free a (omega arith))
-          ((h.each i (omega arith)).may.item ∙ same) (is.due i start (omega arith) same));
+          (filler_item end turns takers fills i v h others (omega arith)
+          (omega (arith, is.due i start (omega arith) same)) same)
+          (is.due i start (omega arith) same));
     } in
     omega (
       arith,
@@ -219,10 +235,11 @@ stretch_counted end turns takers fills v p k j s h to is due item =
 -- the step of takers who need a turn each
 pub takers_step : (end : ℕ) (turns : List Turn) (takers : List Taker) (fills : List Fill)
     (v p k j : ℕ) (s : Stretch) (ss : List Step) → AreFilled end turns takers fills
-    → k ≤ length fills → IsStretch turns takers fills v p k s → IsTakerDue takers fills k p j
-    → (taker_at takers j).item ≡ v → IfSome s.barrier (Reaches fills ss)
+    → OthersNotDue end takers → p < end → k ≤ length fills
+    → IsStretch turns takers fills v p k s → IsTakerDue takers fills k p j
+    → (taker_at takers j).item ≡ Some v → IfSome s.barrier (Reaches fills ss)
     → AreTooMany turns takers ss p k v (position_of fills s.barrier) s.takers
-takers_step end turns takers fills v p k j s ss h to is due item reaches =
+takers_step end turns takers fills v p k j s ss h others lt to is due item reaches =
     let before : after s.barrier ≤ reached_after ss (position_of fills s.barrier) =
     elim s.barrier as (λ o. IfSome o (Reaches fills ss)
     → after o ≤ reached_after ss (position_of fills o)) [
@@ -230,26 +247,26 @@ takers_step end turns takers fills v p k j s ss h to is due item reaches =
       | Some b ↦ λ less. omega (arith, less)
     ] reaches in
     record {
-      some = omega (arith, is.counted, turns_le turns v (after s.barrier) k is.before);
-      counted = stretch_counted end turns takers fills v p k j s h to is due item;
+      some = omega (arith, is.counted, turns_rise turns v (after s.barrier) k is.before);
+      counted = stretch_counted end turns takers fills v p k j s h others lt to is due item;
       few = omega (
         arith,
         is.counted,
-        turns_le turns v (after s.barrier)
+        turns_rise turns v (after s.barrier)
             (reached_after ss (position_of fills s.barrier)) before,
       );
     }
 
 pub takers_link : (end : ℕ) (turns : List Turn) (takers : List Taker) (fills : List Fill)
     (v p k j : ℕ) (s : Stretch) (since : Option ℕ) → AreFilled end turns takers fills
-    → k ≤ length fills → IsStretch turns takers fills v p k s → p < end
-    → IsTakerDue takers fills k p j → (taker_at takers j).item ≡ v
+    → OthersNotDue end takers → k ≤ length fills → IsStretch turns takers fills v p k s → p < end
+    → IsTakerDue takers fills k p j → (taker_at takers j).item ≡ Some v
     → since ≡ position_of fills s.barrier
     → IsLink end turns takers fills k p (record {
       step = record { at = p; count = k + 1; reason = Takers v since s.takers };
       needs = s.barrier;
     })
-takers_link end turns takers fills v p k j s since h to is before due item same = record {
+takers_link end turns takers fills v p k j s since h others to is before due item same = record {
   at = refl;
   count = omega arith;
   needs = (elim s.barrier as (λ o. after o ≤ k → IfSome o (λ i. i < k)) [
@@ -261,15 +278,6 @@ takers_link end turns takers fills v p k j s since h to is before due item same 
     last = k;
     count = refl;
     reason = subst (λ o. AreTooMany turns takers ss p k v o s.takers) (sym same)
-        (takers_step end turns takers fills v p k j s ss h to is due item reaches);
+        (takers_step end turns takers fills v p k j s ss h others before to is due item reaches);
   };
 }
-
--- CHAINS
-
--- with a step that turn k is taken by position p, and those that it follows from, these steps show
--- what is to be shown
-abbrev pub Completes : ℕ → List Turn → List Taker → ℕ → ℕ → List Step → ℕ → ℕ → Type 0
-Completes end turns takers n at steps k p = (s : Step) (ss : List Step) → s.at ≡ p
-    → k < s.count → AreSteps end turns takers (s ∷ ss)
-    → IsChain end turns takers n at (steps ++ s ∷ ss)

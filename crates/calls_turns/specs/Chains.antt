@@ -1,12 +1,16 @@
 -- Steps to a demand that is not met, each found before the one that it follows from.
-use Rattle.std.specs.Prelude.{◌≡◌, ℕ, ◌+◌, ◌<◌, ◌≤◌, List, length, Option, Some, None, IfSome}
+use Rattle.std.specs.Prelude.{◌≡◌, ℕ, ◌+◌, ◌-◌, ◌<◌, ◌≤◌, ◌⊎◌, Bool, true, false, Option, Some, None}
+use Rattle.std.specs.Prelude.{List, [], ◌∷◌, ◌++◌, length, slice_get, slice_index_or, slice_set}
+use Rattle.std.specs.Prelude.{IfSome}
 use Rattle.calls_turns.specs.declared.turn.Turn.{Turn}
 use Rattle.calls_turns.specs.declared.turn.Taker.{Taker}
 use Rattle.calls_turns.specs.declared.turn.Step.{Step}
+use Rattle.calls_turns.specs.declared.turn.Reason.TheVariants.{Due}
 use Rattle.calls_turns.specs.declared.demand.Fill.{Fill}
 use Rattle.calls_turns.specs.declared.chaining.Stretch.{Stretch}
 use Rattle.calls_turns.specs.declared.chaining.Link.{Link}
-use Rattle.calls_turns.specs.Steps.{turns_of, reached, IsStep}
+use Rattle.calls_turns.specs.declared.chaining.Lead.{Lead}
+use Rattle.calls_turns.specs.Steps.{turns_of, reached, IsStep, AreSteps, last_at, last_count}
 use Rattle.calls_turns.specs.Sweeps.{turn_at, fill_at, filler}
 
 -- the turns that were taken are there, and those who took them
@@ -53,3 +57,39 @@ pub record IsLink (end : ℕ) (turns : List Turn) (takers : List Taker) (fills :
   pub needs : IfSome link.needs (λ i. i < k)
   pub step : (ss : List Step) → IfSome link.needs (Reaches fills ss)
       → IsStep end turns takers ss link.step
+
+-- MANY STEPS
+
+-- whether a turn is marked
+abbrev pub is_marked : List Bool → ℕ → Bool
+is_marked marks k = slice_index_or marks k false
+
+-- one turn more is marked, if there is one
+abbrev pub marked : List Bool → Option ℕ → List Bool
+marked marks None = marks
+marked marks (Some k) = slice_set marks k true
+
+-- the last of the steps
+abbrev pub last_step : List Step → Option Step
+last_step ss = slice_get ss (length ss - 1)
+
+-- a step is added, unless it is due and the last one already
+abbrev pub IsAdded : List Step → Step → List Step → Type 0
+IsAdded ss s new = (new ≡ ss ++ s ∷ []) ⊎ ((s.reason ≡ Due) × (last_step ss ≡ Some s) × (new ≡ ss))
+
+-- the step that turn k is taken by position p is added, and the turn that it needs is marked
+pub record HasOneMore (end : ℕ) (turns : List Turn) (takers : List Taker) (fills : List Fill)
+    (k p : ℕ) (old new : Lead) : Type 0 where
+  pub link : Link
+  pub leads : IsLink end turns takers fills k p link
+  pub steps : IsAdded old.steps.items link.step new.steps.items
+  pub needed : new.needed.items ≡ marked old.needed.items link.needs
+
+-- steps, the last one first. The last one says that one turn more than those that were taken is
+-- taken by position p. Each marked turn was taken by the position of its demand
+pub record IsLead (end : ℕ) (turns : List Turn) (takers : List Taker) (fills : List Fill) (p : ℕ)
+    (needed : List Bool) (ss : List Step) : Type 0 where
+  pub steps : AreSteps end turns takers ss
+  pub at : last_at ss ≡ p
+  pub count : length fills < last_count ss
+  pub reach : (k : ℕ) → is_marked needed k ≡ true → Reaches fills ss k

@@ -5,3 +5,4 @@ pub mod Laws
 pub mod Sweeps
 pub mod Chains
 pub mod Swept
+pub mod Shortages

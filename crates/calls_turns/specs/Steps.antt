@@ -1,5 +1,7 @@
 -- What shows that turns can't be taken: how many are taken by a position, at least, step by step.
-use Rattle.std.specs.Prelude.{◌≡◌, ℕ, ◌+◌, ◌<◌, ◌≤◌, ◌⊎◌, ◌==◌, ◌&&◌, Bool, true, max, nat_le, nat_lt}
+use Rattle.std.specs.Prelude.{◌≡◌, ◌≢◌, ℕ, ◌+◌, ◌-◌, ◌<◌, ◌≤◌, ◌⊎◌, ◌==◌, ◌&&◌, Bool, true, false}
+use Rattle.std.specs.Prelude.{max, nat_le, nat_lt}
+use Rattle.calls_core.specs.Lists.{Each, EachPair}
 use Rattle.std.specs.Prelude.{count_by, List, [], ◌∷◌, length, take, Option, Some, None, slice_get}
 use Rattle.std.specs.Prelude.{if◌then◌else◌}
 use Rattle.calls_turns.specs.declared.turn.Turn.{Turn}
@@ -7,8 +9,28 @@ use Rattle.calls_turns.specs.declared.turn.Taker.{Taker}
 use Rattle.calls_turns.specs.declared.turn.Step.{Step}
 use Rattle.calls_turns.specs.declared.turn.Reason.{Reason}
 use Rattle.calls_turns.specs.declared.turn.Reason.TheVariants.{Due, Takers}
+use Rattle.calls_turns.specs.declared.turn.Shortage.{Shortage}
 use Rattle.calls_turns.specs.declared.turn.Clash.{Clash}
 use Rattle.calls_turns.specs.declared.turn.Clash.TheVariants.{Closed, Few}
+
+-- whether a taker takes turns of item v only, or of any item
+abbrev pub has_item : Option ℕ → ℕ → Bool
+has_item None v = false
+has_item (Some w) v = w == v
+
+abbrev pub is_of : ℕ → Taker → Bool
+is_of v x = has_item x.item v
+
+abbrev pub has_none : Option ℕ → Bool
+has_none None = true
+has_none (Some w) = false
+
+-- how many takers of item v, and of any item, may take a turn by position p
+abbrev pub come_of : List Taker → ℕ → ℕ → ℕ
+come_of takers v p = count_by (λ (x : Taker). is_of v x && nat_le x.from p) takers
+
+abbrev pub others_by : List Taker → ℕ → ℕ
+others_by takers p = count_by (λ (x : Taker). has_none x.item && nat_le x.from p) takers
 
 -- how many turns of the first n are of item v
 abbrev pub turns_of : List Turn → ℕ → ℕ → ℕ
@@ -20,7 +42,7 @@ is_later None p = true
 is_later (Some q) p = nat_lt q p
 
 abbrev pub is_within : ℕ → Option ℕ → ℕ → Taker → Bool
-is_within v after p x = (x.item == v) && (is_later after x.from && nat_le x.by p)
+is_within v after p x = is_of v x && (is_later after x.from && nat_le x.by p)
 
 -- how many turns are taken by a position, at least, by these steps
 abbrev pub reached : List Step → ℕ → ℕ
@@ -63,43 +85,53 @@ AreSteps end turns takers [] = Unit {0}
 AreSteps end turns takers (s ∷ ss) =
     IsStep end turns takers ss s × AreSteps end turns takers ss
 
--- turn number k can't be taken by position p: it is not there, it may only be taken later, or up to
--- it there are more turns of its item than takers who may have taken one by then
-pub record IsLacking (turns : List Turn) (takers : List Taker) (p k : ℕ) : Type 0 where
-  pub turn : Turn
-  pub at : slice_get turns k ≡ Some turn
-  pub few : count_by (λ (x : Taker). (x.item == turn.item) && nat_le x.from p) takers
-      < turns_of turns turn.item (k + 1)
+-- the position of the last step
+abbrev pub last_at : List Step → ℕ
+last_at [] = 0
+last_at (s ∷ ss) = s.at
 
+-- the number of turns that it reaches
+abbrev pub last_count : List Step → ℕ
+last_count [] = 0
+last_count (s ∷ ss) = s.count
+
+-- turn number k is not taken before a position later than p
 pub record IsClosed (turns : List Turn) (p k : ℕ) : Type 0 where
   pub turn : Turn
   pub at : slice_get turns k ≡ Some turn
   pub later : p < turn.from
 
-abbrev pub CantBeTaken : List Turn → List Taker → ℕ → ℕ → Type 0
-CantBeTaken turns takers p k =
-    (length turns ≤ k) ⊎ IsClosed turns p k ⊎ IsLacking turns takers p k
+-- turn number s.turn is taken by position s.at, by these steps. Up to it there are so many turns of
+-- an item, and so many takers of the item may take a turn by then
+pub record IsShortage (turns : List Turn) (takers : List Taker) (ss : List Step) (s : Shortage)
+    : Type 0 where
+  pub taken : s.turn < reached ss s.at
+  pub before : s.at ≤ last_at ss
+  pub of_item : s.turns ≡ turns_of turns s.item (s.turn + 1)
+  pub come : s.takers ≡ come_of takers s.item s.at
+  pub few : s.takers ≤ s.turns
 
--- the last of the steps needs turn number k, which can't be taken by then
-abbrev pub Refute : ℕ → List Turn → List Taker → List Step → ℕ → Type 0
-Refute end turns takers [] k = ⊥
-Refute end turns takers (s ∷ ss) k =
-    (k < s.count) × CantBeTaken turns takers s.at k × AreSteps end turns takers (s ∷ ss)
+-- how many takers are missing
+abbrev pub missing : List Shortage → ℕ
+missing [] = 0
+missing (s ∷ list) = (s.turns - s.takers) + missing list
 
--- in numbers
-pub record IsShort (turns : List Turn) (takers : List Taker) (p k v n m : ℕ) : Type 0 where
-  pub turn : Turn
-  pub at : slice_get turns k ≡ Some turn
-  pub item : v ≡ turn.item
-  pub of_item : n ≡ turns_of turns v (k + 1)
-  pub come : m ≡ count_by (λ (x : Taker). (x.item == v) && nat_le x.from p) takers
-  pub few : m < n
+-- takers of any item are too few for those that are missing
+pub record AreShort (turns : List Turn) (takers : List Taker) (ss : List Step)
+    (list : List Shortage) (others : ℕ) : Type 0 where
+  pub each : Each (IsShortage turns takers ss) list
+  pub apart : EachPair (λ (s t : Shortage). s.item ≢ t.item) list
+  pub come : others ≡ others_by takers (last_at ss)
+  pub more : others < missing list
 
-abbrev pub IsClash : List Turn → List Taker → ℕ → ℕ → Clash → Type 0
-IsClash turns takers p k Closed = (length turns ≤ k) ⊎ IsClosed turns p k
-IsClash turns takers p k (Few v n m) = IsShort turns takers p k v n m
+abbrev pub IsClash : List Turn → List Taker → List Step → Clash → Type 0
+IsClash turns takers ss (Closed k) =
+    (k < last_count ss) × ((length turns ≤ k) ⊎ IsClosed turns (last_at ss) k)
+IsClash turns takers ss (Few shortages others) = AreShort turns takers ss shortages.items others
 
--- the position of the last step
-abbrev pub last_at : List Step → ℕ
-last_at [] = 0
-last_at (s ∷ ss) = s.at
+-- each of the steps, the last one first, follows from those before it, and together they need more
+-- than can be taken
+pub record Refute (end : ℕ) (turns : List Turn) (takers : List Taker) (ss : List Step)
+    (clash : Clash) : Type 0 where
+  pub steps : AreSteps end turns takers ss
+  pub clashes : IsClash turns takers ss clash

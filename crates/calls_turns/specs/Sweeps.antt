@@ -1,17 +1,17 @@
 -- Turns that are taken as late as may be, while they are given to takers.
-use Rattle.std.specs.Prelude.{◌≡◌, ℕ, ◌<◌, ◌≤◌, List, [], ◌∷◌, length, slice_index_or}
+use Rattle.std.specs.Prelude.{◌≡◌, ℕ, ◌<◌, ◌≤◌, ◌⊎◌, List, length, slice_index_or}
+use Rattle.std.specs.Prelude.{Option, Some, None}
 use Rattle.calls_turns.specs.declared.turn.Turn.{Turn}
 use Rattle.calls_turns.specs.declared.turn.Taker.{Taker}
-use Rattle.calls_turns.specs.declared.turn.Step.{Step}
 use Rattle.calls_turns.specs.declared.demand.Demand.{Demand}
 use Rattle.calls_turns.specs.declared.demand.Fill.{Fill}
 use Rattle.calls_turns.specs.declared.demand.Target.{Target}
 use Rattle.calls_turns.specs.declared.demand.Target.TheVariants as targets
 use Rattle.calls_turns.specs.Turns.{MayTake}
-use Rattle.calls_turns.specs.Steps.{AreSteps}
+use Rattle.calls_turns.specs.Steps.{IsClosed}
 
 abbrev pub nobody : Taker
-nobody = record { call = 0; item = 0; from = 0; by = 0 }
+nobody = record { call = 0; item = None; from = 0; by = 0 }
 
 abbrev pub no_turn : Turn
 no_turn = record { item = 0; from = 0; by = 0 }
@@ -57,8 +57,15 @@ pub record IsUnmet (end : ℕ) (turns : List Turn) (takers : List Taker) (fills 
   pub before : d.at < end
   pub due : IsTargetDue turns takers fills k d.at d.target
 
+-- when the first k turns were taken, no taker was left, of those of this item or of any (None), who
+-- had come by position p
+abbrev pub NoneLeft : List Taker → List Fill → ℕ → ℕ → Option ℕ → Type 0
+NoneLeft takers fills k p item = (j : ℕ) → j < length takers → IsFree fills k j
+    → (taker_at takers j).item ≡ item → (taker_at takers j).from ≤ p → ⊥
+
 -- turn k is taken since a demand was not met, by somebody who may take it and takes no other. Of
--- those of its item who had come by then, and took no turn before, nobody is due earlier
+-- those of its item who had come by then, and took no turn before, nobody is due earlier. If it is
+-- taken by a taker of any item, there were none of its item
 pub record IsFilled (end : ℕ) (turns : List Turn) (takers : List Taker) (fills : List Fill) (k : ℕ)
     : Type 0 where
   pub turn : k < length turns
@@ -67,9 +74,11 @@ pub record IsFilled (end : ℕ) (turns : List Turn) (takers : List Taker) (fills
   pub may : MayTake (fill_at fills k).demand.at (turn_at turns k) (filler takers fills k)
   pub free : IsFree fills k (fill_at fills k).taker
   pub preferred : (j : ℕ) → j < length takers → IsFree fills k j
-      → (taker_at takers j).item ≡ (turn_at turns k).item
+      → (taker_at takers j).item ≡ Some (turn_at turns k).item
       → (taker_at takers j).from ≤ (fill_at fills k).demand.at
       → (filler takers fills k).by ≤ (taker_at takers j).by
+  pub none_left : (filler takers fills k).item ≡ None
+      → NoneLeft takers fills k (fill_at fills k).demand.at (Some (turn_at turns k).item)
 
 pub record AreFilled (end : ℕ) (turns : List Turn) (takers : List Taker) (fills : List Fill)
     : Type 0 where
@@ -77,8 +86,15 @@ pub record AreFilled (end : ℕ) (turns : List Turn) (takers : List Taker) (fill
   pub rises : (i k : ℕ) → i ≤ k → k < length fills
       → (fill_at fills i).demand.at ≤ (fill_at fills k).demand.at
 
--- the last of these steps, which is the first here, says that turn k is taken by position p
-abbrev pub IsChain : ℕ → List Turn → List Taker → ℕ → ℕ → List Step → Type 0
-IsChain end turns takers k p [] = ⊥
-IsChain end turns takers k p (s ∷ ss) =
-    (k < s.count) × (s.at ≡ p) × AreSteps end turns takers (s ∷ ss)
+-- nobody may take turn k by position p when those before it are taken
+pub record IsLacking (turns : List Turn) (takers : List Taker) (fills : List Fill) (p k : ℕ)
+    : Type 0 where
+  pub there : k < length turns
+  pub of_item : NoneLeft takers fills k p (Some (turn_at turns k).item)
+  pub of_any : NoneLeft takers fills k p None
+
+-- turn k can't be taken by position p: it is not there, it may only be taken later, or nobody is
+-- left who may take it
+abbrev pub CantBeTaken : List Turn → List Taker → List Fill → ℕ → ℕ → Type 0
+CantBeTaken turns takers fills p k =
+    (length turns ≤ k) ⊎ IsClosed turns p k ⊎ IsLacking turns takers fills p k

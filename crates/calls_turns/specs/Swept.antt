@@ -1,5 +1,5 @@
 -- What is known while turns are taken: who takes one, who may, and who comes later.
-use Rattle.std.specs.Prelude.{◌≡◌, ℕ, ◌+◌, ◌<◌, ◌≤◌, ◌==◌, Bool, nat_lt, Option, Some, None}
+use Rattle.std.specs.Prelude.{◌≡◌, ℕ, ◌+◌, ◌<◌, ◌≤◌, ◌⊎◌, ◌==◌, Bool, nat_lt, Option, Some, None}
 use Rattle.std.specs.Prelude.{List, ◌++◌, length, map, take, count_by, slice_index, slice_index_or}
 use Rattle.std.specs.Prelude.{if◌then◌else◌}
 use Rattle.std.specs.List.{Contains}
@@ -12,8 +12,7 @@ use Rattle.calls_turns.specs.declared.demand.Fill.{Fill}
 use Rattle.calls_turns.specs.declared.demand.Target.{Target}
 use Rattle.calls_turns.specs.declared.demand.Target.TheVariants as targets
 use Rattle.calls_turns.specs.declared.sweeping.Sweep.{Sweep}
-use Rattle.calls_turns.specs.Steps.{CantBeTaken}
-use Rattle.calls_turns.specs.Sweeps.{taker_at, turn_at, fill_at, IsFree, IsUnmet}
+use Rattle.calls_turns.specs.Sweeps.{taker_at, turn_at, fill_at, IsFree, IsUnmet, CantBeTaken}
 
 -- WHAT IS DUE
 
@@ -103,27 +102,40 @@ pub record IsAt (turns : List Turn) (takers : List Taker) (s : Sweep) (p : ℕ) 
 abbrev pub free_at : List Taker → List ℕ → ℕ → Taker
 free_at takers free i = taker_at takers (slice_index free i)
 
--- of the first n free ones of an item this one is due first
-pub record IsFirstDue (takers : List Taker) (free : List ℕ) (item n place : ℕ) : Type 0 where
+-- of the first n free ones of an item, or of any, this one is due first
+pub record IsFirstDue (takers : List Taker) (free : List ℕ) (item : Option ℕ) (n place : ℕ)
+    : Type 0 where
   pub within : place < n
   pub of_item : (free_at takers free place).item ≡ item
   pub least : (i : ℕ) → i < n → (free_at takers free i).item ≡ item
       → (free_at takers free place).by ≤ (free_at takers free i).by
 
-abbrev pub IsChoice : List Taker → List ℕ → ℕ → ℕ → Option ℕ → Type 0
+abbrev pub IsChoice : List Taker → List ℕ → Option ℕ → ℕ → Option ℕ → Type 0
 IsChoice takers free item n None =
     (i : ℕ) → i < n → (free_at takers free i).item ≡ item → ⊥
 IsChoice takers free item n (Some place) = IsFirstDue takers free item n place
+
+-- of the free ones this one takes a turn of item v: the one of the item who is due first or, if
+-- there is none, one of any item
+abbrev pub IsChosen : List Taker → List ℕ → ℕ → ℕ → Type 0
+IsChosen takers free v place = IsFirstDue takers free (Some v) (length free) place
+    ⊎ (IsChoice takers free (Some v) (length free) None
+    × IsFirstDue takers free None (length free) place)
+
+-- nobody does
+abbrev pub NobodyChosen : List Taker → List ℕ → ℕ → Type 0
+NobodyChosen takers free v = IsChoice takers free (Some v) (length free) None
+    × IsChoice takers free None (length free) None
 
 -- the next turn may be taken by the one at this place
 pub record IsNext (turns : List Turn) (takers : List Taker) (s : Sweep) (p place : ℕ) : Type 0 where
   pub turn : length s.fills.items < length turns
   pub from : (turn_at turns (length s.fills.items)).from ≤ p
-  pub first : IsFirstDue takers s.free.items (turn_at turns (length s.fills.items)).item
-      (length s.free.items) place
+  pub chosen : IsChosen takers s.free.items (turn_at turns (length s.fills.items)).item place
 
 -- a demand that can't be met
 pub record IsStuck (end : ℕ) (turns : List Turn) (takers : List Taker) (fills : List Fill)
     (d : Demand) : Type 0 where
   pub unmet : IsUnmet end turns takers fills (length fills) d
-  pub cant : CantBeTaken turns takers d.at (length fills)
+  pub until : (k : ℕ) → k < length fills → (fill_at fills k).demand.at ≤ d.at
+  pub cant : CantBeTaken turns takers fills d.at (length fills)

@@ -1,6 +1,6 @@
 -- Turns that are taken one after another. Each turn is of an item, and each taker takes at most one
--- turn of its item.
-use Rattle.std.specs.Prelude.{◌≡◌, ℕ, ◌+◌, ◌<◌, ◌≤◌, List, [], ◌∷◌, ◌++◌, length}
+-- turn, of its item or, if it has none, of any.
+use Rattle.std.specs.Prelude.{◌≡◌, ℕ, ◌+◌, ◌<◌, ◌≤◌, List, [], ◌∷◌, ◌++◌, length, Some, None}
 use Rattle.std.specs.List.Sorted.{IsPermutation}
 use Rattle.calls_core.specs.Lists.{Each}
 use Rattle.calls_turns.specs.declared.turn.Turn.{Turn}
@@ -8,11 +8,15 @@ use Rattle.calls_turns.specs.declared.turn.Taker.{Taker}
 
 -- the taker may take the turn at position p
 pub record MayTake (p : ℕ) (t : Turn) (x : Taker) : Type 0 where
-  pub item : x.item ≡ t.item
+  pub item : (v : ℕ) → x.item ≡ Some v → v ≡ t.item
   pub turn_from : t.from ≤ p
   pub turn_by : p ≤ t.by
   pub from : x.from ≤ p
   pub by : p ≤ x.by
+
+-- who takes a turn of any item is not due before the end
+abbrev pub OthersNotDue : ℕ → List Taker → Type 0
+OthersNotDue end takers = Each (λ (x : Taker). x.item ≡ None → end ≤ x.by) takers
 
 -- the turns, of which the first is number k, are taken by these takers in their order, each at its
 -- moment. Those that are left are not due before the end

@@ -2,12 +2,12 @@
 ghost use Rattle.std.specs.Prelude.{◌≡◌, ℕ, ◌<◌, ◌≤◌, length, IfOk};
 ghost use Rattle.std.specs.List.Sorted.{IsPermutation, IsNonDecreasingBy};
 ghost use Rattle.calls_turns.specs.declared.turn.Taker.{Taker};
+ghost use Rattle.calls_turns.specs.Turns.{OthersNotDue};
 ghost use Rattle.calls_turns.specs.Outcomes.{IsOutcome};
 ghost use Rattle.calls_turns.specs.Sweeps.{fill_at};
 ghost use Rattle.calls_turns.specs.Swept.{fillers};
 
-use crate::chaining::steps_of;
-use crate::clash::clash_of;
+use crate::clash::{Refutation, refute};
 use crate::demand::Fill;
 use crate::sweeping::{Sweep, demands_of, meet};
 use crate::turn::{Clash, Step, Taker, Turn};
@@ -22,9 +22,7 @@ pub enum Outcome {
     Refuted {
         /// Each of these steps follows from those before it.
         steps: Vec<Step>,
-        /// The last one needs the turn at this index, which can't be taken by then.
-        turn: usize,
-        /// Why it can't.
+        /// Together they need more than can be taken.
         clash: Clash,
     },
 }
@@ -58,17 +56,24 @@ fn assign_sorted(
     turns: &[Turn],
     takers: &[Taker],
 ) -> Result<Outcome, AllocError>
-    requires { IsNonDecreasingBy (λ (x : Taker). x.from) takers.now }
+    requires sorted { IsNonDecreasingBy (λ (x : Taker). x.from) takers.now }
+    requires others { OthersNotDue end takers.now }
     ensures { IfOk result (IsOutcome end turns.now takers.now) }
 {
     let demands = demands_of(alloc, end, turns, takers)?;
     let mut sweep = Sweep::new(alloc);
     for demand in &demands {
         if !meet(turns, takers, &mut sweep, *demand)? {
-            let steps = steps_of(alloc, end, turns, takers, &sweep.fills, *demand)?;
-            let turn = sweep.fills.len();
-            let clash = clash_of(turns, takers, demand.at, turn);
-            return Ok(Outcome::Refuted { steps, turn, clash });
+            let Refutation { mut steps, clash } = refute(
+                alloc,
+                end,
+                turns,
+                takers,
+                &sweep.fills,
+                *demand,
+            )?;
+            steps.reverse();
+            return Ok(Outcome::Refuted { steps, clash });
         }
     }
     let order = order_of(alloc, takers, &sweep.fills)?;
@@ -76,13 +81,15 @@ fn assign_sorted(
 }
 
 /// Decides who takes which turn. Turns are taken as late as may be, and each goes to the taker of
-/// its item who is due first. What is due at `end` or later need not be done.
+/// its item who is due first or, if there is none, to a taker of any item. What is due at `end` or
+/// later need not be done.
 pub fn assign(
     alloc: Global,
     end: usize,
     turns: &[Turn],
     takers: &[Taker],
 ) -> Result<Outcome, AllocError>
+    requires { OthersNotDue end takers.now }
     ensures { IfOk result (IsOutcome end turns.now takers.now) }
 {
     let sorted = sorted_takers(alloc, takers)?;

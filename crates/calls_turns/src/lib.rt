@@ -11,4 +11,4 @@ mod turn;
 
 pub use assigning::{Outcome, assign};
 pub use laws::steps_leave_no_taking;
-pub use turn::{Clash, Reason, Step, Taker, Turn};
+pub use turn::{Clash, Reason, Shortage, Step, Taker, Turn};

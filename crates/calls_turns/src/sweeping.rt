@@ -1,4 +1,5 @@
-//! Takes turns as late as may be: when something is due. A turn goes to the taker who is due first.
+//! Takes turns as late as may be: when something is due. A turn goes to the taker of its item who is
+//! due first or, if there is none, to a taker of any item.
 ghost use Rattle.std.specs.Prelude.{◌≡◌, ℕ, ◌+◌, ◌<◌, ◌≤◌, true, false, List, length, nat_lt, IfOk};
 ghost use Rattle.std.specs.Prelude.{IfSome, IfNone, MatchOption, slice_index};
 ghost use Rattle.std.specs.List.{Contains};
@@ -8,11 +9,11 @@ ghost use Rattle.calls_turns.specs.declared.turn.Turn.{Turn};
 ghost use Rattle.calls_turns.specs.declared.turn.Taker.{Taker};
 ghost use Rattle.calls_turns.specs.declared.demand.Demand.{Demand};
 ghost use Rattle.calls_turns.specs.declared.demand.Target.{Target};
-ghost use Rattle.calls_turns.specs.Steps.{CantBeTaken};
-ghost use Rattle.calls_turns.specs.Sweeps.{taker_at, AreFilled};
+ghost use Rattle.calls_turns.specs.Sweeps.{taker_at, AreFilled, CantBeTaken};
 ghost use Rattle.calls_turns.specs.Swept.{IsDemand, IsTarget, HaveTurns, HaveTakers, AreDemands};
 ghost use Rattle.calls_turns.specs.Swept.{is_met, IsSplit, HasCome, AreDueFrom, AreLater, IsAt};
-ghost use Rattle.calls_turns.specs.Swept.{free_at, IsChoice, IsNext, IsStuck};
+ghost use Rattle.calls_turns.specs.Swept.{free_at, IsChoice, IsChosen, NobodyChosen, IsNext};
+ghost use Rattle.calls_turns.specs.Swept.{IsStuck};
 
 use crate::demand::{Demand, Fill, Target};
 use crate::turn::{Taker, Turn};
@@ -129,8 +130,8 @@ fn is_better(takers: &[Taker], free: &[usize], taker: &Taker, best: Option<usize
     }
 }
 
-/// Returns the place of the taker who is due first, of those who may take a turn of this item.
-fn first_due(takers: &[Taker], free: &[usize], item: usize) -> Option<usize>
+/// Returns the place of the taker who is due first, of those of an item or of any.
+fn first_due(takers: &[Taker], free: &[usize], item: Option<usize>) -> Option<usize>
     requires { (i : ℕ) → i < length free.now → slice_index free.now i < length takers.now }
     ensures { IsChoice takers.now free.now item (length free.now) result }
 {
@@ -144,16 +145,30 @@ fn first_due(takers: &[Taker], free: &[usize], item: usize) -> Option<usize>
     best
 }
 
+/// Returns the place of the taker who takes a turn of an item: one of the item if there is one,
+/// else one of any item.
+fn chosen(takers: &[Taker], free: &[usize], item: usize) -> Option<usize>
+    requires { (i : ℕ) → i < length free.now → slice_index free.now i < length takers.now }
+    ensures { MatchOption result (NobodyChosen takers.now free.now item)
+        (λ place. IsChosen takers.now free.now item place) }
+{
+    match first_due(takers, free, Some(item)) {
+        Some(place) => Some(place),
+        None => first_due(takers, free, None),
+    }
+}
+
 /// Returns the place of the taker who takes the next turn at a position, if that can be done.
 fn next_place(turns: &[Turn], takers: &[Taker], sweep: &Sweep, at: usize) -> Option<usize>
     requires { IsAt turns.now takers.now sweep.now at }
     ensures some { IfSome result (λ place. IsNext turns.now takers.now sweep.now at place) }
     ensures none { (end : ℕ) → AreFilled end turns.now takers.now sweep.now.fills.items
-        → IfNone result (CantBeTaken turns.now takers.now at (length sweep.now.fills.items)) }
+        → IfNone result (CantBeTaken turns.now takers.now sweep.now.fills.items at
+        (length sweep.now.fills.items)) }
 {
     let k = sweep.fills.len();
     if k < turns.len() && turns[k].from <= at {
-        first_due(takers, &sweep.free, turns[k].item)
+        chosen(takers, &sweep.free, turns[k].item)
     } else {
         None
     }

@@ -16,8 +16,8 @@ pub struct Turn {
 pub struct Taker {
     /// Who it is: a number that the caller knows.
     pub call: usize,
-    /// The item of the turn.
-    pub item: usize,
+    /// The item of the turn; `None` if it may be of any item.
+    pub item: Option<usize>,
     /// The turn is not taken before this position.
     pub from: usize,
     /// It is taken by this position, if this is before the end.
@@ -51,18 +51,33 @@ pub enum Reason {
     },
 }
 
-/// Why a turn can't be taken by a position.
+/// Turns of an item that are taken by a position, and who may take them by then.
 #[derive(Clone, Copy, Debug, PartialEq, Eq)]
+pub struct Shortage {
+    /// The position.
+    pub at: usize,
+    /// The index of a turn that is taken by then.
+    pub turn: usize,
+    /// The item.
+    pub item: usize,
+    /// How many turns of the item there are, up to that turn.
+    pub turns: usize,
+    /// How many takers of the item may take a turn by then. They are no more than these turns.
+    pub takers: usize,
+}
+
+/// Why not so many turns can be taken.
+#[derive(Debug, Drop)]
 pub enum Clash {
-    /// It is not taken before a later position, or there are not so many turns.
-    Closed,
-    /// Up to it so many turns are of its item, and fewer takers of it may take turns by then.
+    /// The last step needs the turn at this index, which is not taken before a later position; or
+    /// there are not so many turns.
+    Closed(usize),
+    /// There are more turns of some items than takers of these, and fewer takers of any item than
+    /// are missing in all.
     Few {
-        /// The item.
-        item: usize,
-        /// The number of turns.
-        turns: usize,
-        /// The number of takers.
-        takers: usize,
+        /// What is missing, for each of these items.
+        shortages: Vec<Shortage>,
+        /// How many takers of any item may take turns by the position of the last step.
+        others: usize,
     },
 }

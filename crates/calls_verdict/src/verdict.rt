@@ -34,8 +34,8 @@ pub enum Cause {
     /// Of a cell or a database: these of its calls are the reason.
     Values(calls_cells::Undecided),
     /// Of a buffer: its events before this position have a linearization. With the event at this
-    /// position neither one nor a fault was found, which the contract does not say. An item was put
-    /// in twice, or a pending consume may have taken one, or there is no room.
+    /// position neither one nor a fault was found, which the contract does not say. Produces overlap,
+    /// and an item was put in twice or a pending consume may have taken one; or there is no room.
     Unfound(usize),
 }
 

@@ -65,7 +65,7 @@ item_marks (item.Overtaken p c before later all) = []
 item_marks (item.Passed p c left pending) = []
 item_marks (item.Squeezed q p left pending) = []
 item_marks (item.Overdue bounds) = map (λ (b : Bound). b.at) bounds.items
-item_marks (item.Outrun flow steps turn clash) = map (λ (s : Step). s.at) steps.items
+item_marks (item.Outrun flow steps clash) = map (λ (s : Step). s.at) steps.items
 
 abbrev pub marks_of : Fault → List ℕ
 marks_of (faults.Count f) = []

@@ -1,6 +1,6 @@
 """Random changes of histories of calls, and random histories."""
 
-from trying.calls.threads import Threads
+from trying.calls.threads import SORTS, Threads
 
 WORDS = "0 1 2 01 9 1000000000000000000 done timeout a b zz both end run from calls returns".split()
 ODD = ("\t", "\r", " ", "\0", "\xff", "x", "0", "[", "\xef\xbb\xbf", "x" * 9000)
@@ -124,9 +124,9 @@ def changed_line(draw, lines):
         lines[at] = " ".join(words)
 
 
-def random_text(draw):
-    """Returns a random history, good or broken."""
-    lines = Threads(draw).text()
+def random_text(draw, sorts=SORTS):
+    """Returns a random history of objects of these sorts, good or broken."""
+    lines = Threads(draw, sorts=sorts).text()
     changes = draw.choices(
         (
             [],

@@ -81,13 +81,14 @@ def check_unfound(history, words):
 
 
 def accesses(calls):
-    """Returns the produces and the consumes that may have taken effect, and whether a consume is pending."""
+    """Returns the produces that may have taken effect, the consumes that returned an item, and where the pending ones were
+    invoked."""
     puts = [one for one in calls if one.op[0] == "produce" and one.reply != "timeout"]
     takes = [one for one in calls if one.op[0] == "consume" and one.reply not in (None, "timeout")]
     return (
         [(one.op[1], one.first, one.last) for one in puts],
         [(one.reply, one.first, one.last) for one in takes],
-        any(one.op[0] == "consume" and one.last is None for one in calls),
+        [one.first for one in calls if one.op[0] == "consume" and one.last is None],
     )
 
 
@@ -443,21 +444,38 @@ class Claim:
         position = None if after is None else int(after) - self.history.first_line
         return at, number, (calls, int(item), position)
 
+    def closed(self, text, flow, room):
+        """Returns the index of the item for which it is too early, and checks how much room there is."""
+        number, *others = map(int, re.findall("[0-9]+", text))
+        need(others == ([room] if flow == "in" else []), "there is other room")
+        return number + room if flow == "in" else number
+
+    def shortages(self, text, flow, at):
+        """Returns the shortages, and how many consumes are pending. Checks that these are counted up to the last step."""
+        shortages, others = [], 0
+        for part in text.split("; "):
+            *numbers, line = map(int, re.findall("[0-9]+", part))
+            position = line - self.history.first_line
+            if "pending" in part:
+                (others,) = numbers
+                need(position == at, "the pending consumes are counted up to another line")
+                continue
+            count, needed, item, come = numbers if " and only " in part else [*numbers, 0]
+            need({"in": " produce", "out": " consume"}[flow] in part, "a shortage is of the other calls")
+            shortages.append((position, count - 1, needed, come, item))
+        return shortages, others
+
     def outrun(self, words):
-        """Checks the steps: each follows from those before it, and the last one needs an item for which it is too early."""
-        flow = "in" if " put in" in words["steps"] else "out"
-        room, (puts, takes, is_asked) = self.room(), accesses(self.calls)
-        is_known = is_taken_in_turn(puts, takes, is_asked) if flow == "out" else is_put_in_turn(puts, takes)
+        """Checks the steps: each follows from those before it, and together they need more items than there can be."""
+        flow, text = "in" if " put in" in words["steps"] else "out", words["clash"]
+        room, (puts, takes, asked) = self.room(), accesses(self.calls)
+        is_known = is_taken_in_turn(puts) if flow == "out" else is_put_in_turn(puts, takes)
         need(is_known, "the order of the items is not known")
-        steps = [self.step(text, flow, room) for text in words["steps"].split("; ")]
-        first, *others = map(int, re.findall("[0-9]+", words["clash"]))
-        if "no more than" in words["clash"]:
-            need(others == ([room] if flow == "in" else []), "there is other room")
-            turn, clash = (first + room if flow == "in" else first), None
-        else:
-            turn, clash = first - 1, (others[1], others[0], others[2])
-        turns, takers = turns_of(flow, puts, takes, room, self.at + 1)
-        need(is_outrun(turns, takers, steps, turn, clash, self.at + 1), "a step does not follow")
+        steps = [self.step(step, flow, room) for step in words["steps"].split("; ")]
+        is_closed = "no more than" in text
+        clash = self.closed(text, flow, room) if is_closed else self.shortages(text, flow, steps[-1][0])
+        turns, takers = turns_of(flow, puts, takes, asked, room, self.at + 1)
+        need(is_outrun(turns, takers, steps, clash, self.at + 1), "a step does not follow")
 
     def overdue(self, words):
         """Checks the bounds: each follows from those before it, and only the last one is of more items than there are."""

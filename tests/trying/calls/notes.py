@@ -32,15 +32,21 @@ BOUND = (
 COUNTED = "(?:1 {0}|(?!1 )" + NUMBER + " {0}s)"
 ITEMS, PRODUCES, CONSUMES = (COUNTED.format(noun) for noun in ("item", "produce", "consume"))
 ITS_CALLS = f"(?:{PRODUCES}|{CONSUMES})"
+FEW_CALLS = f"(?:no (?:produce|consume)|only (?!0 ){ITS_CALLS})"
 STEP = (
     f"by line {NUMBER}, (?:{PRODUCES} had returned, so with room for {NUMBER}|{CONSUMES} had returned, so"
     f"|{ITS_CALLS} of {NUMBER}(?: called after line {NUMBER})? had returned, so)"
     f" at least {ITEMS} had been (?:put in|taken)"
 )
+SHORTAGE = (
+    f"of the first {ITEMS}, (?:1 was|(?!1 ){NUMBER} were) {NUMBER},"
+    f" and {FEW_CALLS} of it had been called by line {NUMBER}"
+)
 CLASH = (
     f"(?:no more than {PRODUCES} had been called by then"
     f"|no more than {CONSUMES} had been called by then, with room for {NUMBER}"
-    f"|of the first {ITEMS}, {NUMBER} were {NUMBER}, and only {ITS_CALLS} of it had been called by then)"
+    f"|{SHORTAGE}(?:; {SHORTAGE})*"
+    f"(?:; and only (?!0 ){COUNTED.format('pending consume')} had been called by line {NUMBER})?)"
 )
 HELD = f"(?P<X>[^ ]+) returned (?P<value>{VALUE})"
 

@@ -10,11 +10,11 @@ SORTS = (
 
 class Threads:
     """Workers that call right objects: each call takes effect at a moment between its two events.
-    `lines` are the events, as text."""
+    `lines` are the events, as text. The objects are of these sorts."""
 
     NAMES = "a b c d w5 w6 w7 w8 w9 w10 w11 w12 w13 w14 w15 w16".split()
 
-    def __init__(self, draw, most=30):
+    def __init__(self, draw, most=30, sorts=SORTS):
         self.draw = draw
         self.workers = self.NAMES[: draw.choice((2, 3, 3, 4, 4, 5, 16))]
         self.limit = draw.choice((3, 30, 4294967296, 4294967296, 281474976710655))
@@ -23,7 +23,7 @@ class Threads:
         self.values = draw.choice(("few", "few", "distinct"))
         self.is_serial = draw.random() < 0.4
         for at in range(draw.choice((1, 1, 1, 2, 3, 4))):
-            getattr(self, draw.choice(SORTS))(f"{draw.choice('EXTDS')}{at}")
+            getattr(self, draw.choice(sorts))(f"{draw.choice('EXTDS')}{at}")
         self.left = draw.randint(1, most)
         self.pace = {worker: draw.choice((0.05, 0.3, 1, 1)) for worker in self.workers}
         for _ in range(10 * self.left):

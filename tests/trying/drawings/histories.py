@@ -35,6 +35,7 @@ class History:
         self.workers = next(it for it in lines if it.startswith("workers ")).split()[1:]
         self.starts = {it.split()[1]: int(it.split()[2]) for it in lines[:run] if it.startswith("from ")}
         self.units = {it.split()[1]: int(it.split()[2]) for it in lines[:run] if it.startswith("semaphore ")}
+        self.rooms = {it.split()[1]: int(it.split()[2]) for it in lines[:run] if it.startswith("buffer ")}
         open_calls, self.calls = {}, []
         for at, line in enumerate(events):
             worker, word, rest = line.split(" ", 2)
@@ -66,6 +67,7 @@ class Text(NamedTuple):
     calls: list
     named: list
     stairs: list
+    limits: list
 
 
 def text_of(output, workers):
@@ -88,18 +90,24 @@ def text_of(output, workers):
     calls = [it for it in rest if re.search(r", (events \d+ to \d+|from event \d+)(, point \d+)?$", it)]
     named = [it[7:] for it in calls if it.startswith("named: ")]
     stairs = [it for it in rest if it.startswith("stair: ")]
-    return Text(places, events, rows, panels, [it for it in calls if not it.startswith("named: ")], named, stairs)
+    limits = [it for it in rest if it.startswith("limit: ")]
+    calls = [it for it in calls if not it.startswith("named: ")]
+    return Text(places, events, rows, panels, calls, named, stairs, limits)
+
+
+WORDS = {"advances": "advance", "tickets": "ticket", "given": "v", "produces": "produce", "consumes": "consume"}
 
 
 def counts(kind, act, reply=None):
-    """Returns whether a call adds to a count: advances, tickets, or units of a semaphore that are given or taken."""
+    """Returns whether a call adds to a count: advances, tickets, units of a semaphore that are given or taken, or items
+    of a buffer that are produced or consumed."""
     word, *names = act.split()
     if reply == "timeout":
         return False
     sort, name = kind
     if sort == "taken":
         return word in ("p", "pboth") and name in names
-    return word == {"advances": "advance", "tickets": "ticket", "given": "v"}[sort] and names[0] == name
+    return word == WORDS[sort] and names[0] == name
 
 
 def tally(calls, kind, position):
@@ -109,23 +117,27 @@ def tally(calls, kind, position):
     return called, returned
 
 
+def moves(history, name):
+    """Returns the first number of an object, and the kinds of calls that raise it and that lower it, if some do."""
+    if name in history.units:
+        return history.units[name], ("given", name), ("taken", name)
+    if name in history.rooms:
+        return 0, ("produces", name), ("consumes", name)
+    sort = "tickets" if any(c.act == f"ticket {name}" for c in history.calls) else "advances"
+    return history.starts.get(name, 0), (sort, name), None
+
+
 def bounds(history, name, position):
     """Returns the least and the greatest number that an object may have before the event at a position."""
-    if name in history.units:
-        given, taken = (tally(history.calls, (sort, name), position) for sort in ("given", "taken"))
-        units = history.units[name]
-        return max(0, units + given[1] - taken[0]), max(0, units + given[0] - taken[1])
-    sort = "tickets" if any(c.act == f"ticket {name}" for c in history.calls) else "advances"
-    called, returned = tally(history.calls, (sort, name), position)
-    start = history.starts.get(name, 0)
-    return start + returned, start + called
+    start, raising, lowering = moves(history, name)
+    up = tally(history.calls, raising, position)
+    down = tally(history.calls, lowering, position) if lowering else (0, 0)
+    return max(0, start + up[1] - down[0]), max(0, start + up[0] - down[1])
 
 
 def moved(history, name, points, position):
     """Returns the number of an object, along the order, before the event at a position."""
+    start, raising, lowering = moves(history, name)
     done = [c for c, point in points.items() if point <= position]
-    if name in history.units:
-        given = sum(counts(("given", name), c.act) for c in done)
-        taken = sum(counts(("taken", name), c.act, c.reply) for c in done)
-        return history.units[name] + given - taken
-    return history.starts.get(name, 0) + sum(c.act in (f"advance {name}", f"ticket {name}") for c in done)
+    up = sum(counts(raising, c.act, c.reply) for c in done)
+    return start + up - sum(bool(lowering) and counts(lowering, c.act, c.reply) for c in done)

@@ -9,10 +9,11 @@ from trying.verdicts.turns import is_outrun, is_put_in_turn, is_taken_in_turn, t
 
 
 def accesses(calls):
-    """Returns the produces and the consumes that may have taken effect, and whether a consume is pending."""
+    """Returns the produces that may have taken effect, the consumes that returned an item, and where the pending ones were
+    invoked."""
     puts = [(c[2][1], c[4], c[5]) for c in calls if c[2][0] == "produce" and c[3] != "timeout"]
     takes = [(c[3], c[4], c[5]) for c in calls if c[2][0] == "consume" and c[3] not in (None, "timeout")]
-    return puts, takes, any(c[2][0] == "consume" and c[5] is None for c in calls)
+    return puts, takes, [c[4] for c in calls if c[2][0] == "consume" and c[5] is None]
 
 
 def shows_bounds(calls, room, words, end):
@@ -25,13 +26,21 @@ def shows_steps(calls, room, words, end):
     """Whether these words leave the items no order: in or out; steps, each POSITION:NUMBER, with /TAKERS*ITEM and
     @POSITION; and a clash."""
     flow, *rest = words
-    puts, takes, is_asked = accesses(calls)
-    if not (is_taken_in_turn(puts, takes, is_asked) if flow == "out" else is_put_in_turn(puts, takes)):
+    puts, takes, asked = accesses(calls)
+    if not (is_taken_in_turn(puts) if flow == "out" else is_put_in_turn(puts, takes)):
         return False
     split = rest.index("few" if "few" in rest else "closed")
     steps = [step_of(word) for word in rest[:split]]
-    turn, *clash = map(int, rest[split + 1 :])
-    return is_outrun(*turns_of(flow, puts, takes, room, end), steps, turn, clash or None, end)
+    return is_outrun(*turns_of(flow, puts, takes, asked, room, end), steps, clash_of(*rest[split:]), end)
+
+
+def clash_of(name, *words):
+    """Returns a clash of these words: closed TURN; or few, shortages POSITION:TURN/TURNS-TAKERS*ITEM, and +OTHERS."""
+    if name == "closed":
+        return int(*words)
+    *shortages, others = words
+    forms = [re.fullmatch(r"(\d+):(\d+)/(\d+)-(\d+)\*(\d+)", word) for word in shortages]
+    return [tuple(map(int, form.groups())) for form in forms], int(re.fullmatch(r"\+(\d+)", others)[1])
 
 
 def step_of(word):

@@ -3,15 +3,16 @@
 from trying.verdicts.turns import is_put_in_turn, is_taken_in_turn
 
 
-def windows_of(puts, takes, is_asked):
+def windows_of(puts, takes, asked):
     """Returns for each item that is put in once where its produce and its consume begin and end, or None. `puts` are
     (item, first, last), with last None if the produce is pending; `takes` are (item, first, last). An item that nobody
-    returned is left out if its produce is pending, or if `is_asked`: a pending consume may have taken it."""
+    returned is left out if its produce is pending, or if a consume is: that may have taken it. `asked` are where these were
+    invoked."""
     windows = []
     for item, first, last in puts:
         own = [take for take in takes if take[0] == item]
         once = sum(1 for put in puts if put[0] == item) == 1 and len(own) < 2
-        if once and (own or (last is not None and not is_asked)):
+        if once and (own or (last is not None and not asked)):
             windows.append((first, last, *(own[0][1:] if own else (None, None))))
     return windows
 
@@ -41,11 +42,11 @@ def is_chain(windows, room, bounds, end):
     return len(bounds) > 0
 
 
-def is_decided(puts, takes, is_asked):
+def is_decided(puts, takes, asked):
     """Whether the calls are of a class that is always decided: each item is put in at most once, and no pending consume
     may have taken one; or the items are taken out, or put in, in a known order."""
-    if is_taken_in_turn(puts, takes, is_asked) or is_put_in_turn(puts, takes):
+    if is_taken_in_turn(puts) or is_put_in_turn(puts, takes):
         return True
     items = [item for item, first, last in puts]
     kept = [item for item, first, last in puts if last is not None and item not in [take[0] for take in takes]]
-    return len(set(items)) == len(items) and not (is_asked and kept)
+    return len(set(items)) == len(items) and not (asked and kept)

@@ -5,12 +5,8 @@ use Rattle.calls_core.specs.declared.history.PendingCall.{PendingCall}
 use Rattle.calls_core.specs.declared.history.Call.{Call}
 use Rattle.calls_core.specs.Lists.{Each, EachPair}
 use Rattle.calls_buffers.specs.declared.windows.Window.{Window}
-use Rattle.calls_buffers.specs.declared.turns.Turned.{Turned}
-use Rattle.calls_buffers.specs.declared.turns.Turned.TheVariants.{Ranked, Refuted}
-use Rattle.calls_buffers.specs.Faults.{ShowsIn}
 use Rattle.calls_buffers.specs.Jobs.{IsProduceOf, IsConsumeOf}
 use Rattle.calls_buffers.specs.kept.Windows.{in_by, IsCompletedPut, IsPendingPut, IsCompletedTake}
-use Rattle.calls_buffers.specs.kept.Windows.{AreRanked}
 
 -- no two calls were invoked at the same position
 pub record AreInvokedApart (done : List Call) (pending : List PendingCall) : Type 0 where
@@ -51,9 +47,3 @@ pub record AreSpans (done : List Call) (pending : List PendingCall) (end : ℕ) 
   pub takes : (v : ℕ) (c : Call) → IsConsumeOf done v c → HasTake ws v c.first
   pub puts_apart : EachPair (λ (x y : Window). x.put_first ≡ y.put_first → ⊥) ws
   pub takes_apart : EachPair (λ (x y : Window). x.take_first ≡ y.take_first → x.take_first ≡ end) ws
-
--- the windows of items in the order of ranks that they may have, or a fault
-abbrev pub IsTurned : ℕ → List Call → List PendingCall → ℕ → Turned → Type 0
-IsTurned n done pending end (Ranked order) =
-    AreSpans done pending end order.items × AreRanked n order.items order.items
-IsTurned n done pending end (Refuted f) = ShowsIn n done pending f

@@ -14,19 +14,19 @@ returns-clause-found c = λ ws calls are ranked room none.
     let puts = get same_pair c.in_ok-plan.plan.puts in
     let takes = get same_pair c.in_ok-plan.plan.takes in
     c.follow.ensures.found (legal_order c.args.room c.args.end done pending c.args.order.now puts
-    takes calls (told_by_items done pending c.args.end ws c.args.order.now are ranked.all)
+    takes calls.completed (told_by_items done pending c.args.end ws c.args.order.now are ranked.all)
     ranked.pairs ranked.room room c.in_ok-plan.ensures _
     (c.deref-2.ensures.value ∙ c.in_ok-answers.ensures none
     ∙ ap (map (λ (o : PendingCall). answer_of puts None o.op o.first)) c.deref.ensures.value))
 
 pub returns-clause-spread : goal.returns-clause-spread
-returns-clause-spread c = λ calls invoked are ranked room none.
+returns-clause-spread c = λ calls earlier invoked are ranked room none.
     let done = c.args.calls.now.done.items in
     let pending = c.args.calls.now.pending.items in
     let puts = get same_pair c.in_ok-plan.plan.puts in
     let takes = get same_pair c.in_ok-plan.plan.takes in
     c.follow.ensures.found (legal_order c.args.room c.args.end done pending c.args.order.now puts
-    takes calls (told_by_calls c.args.room done pending c.args.end c.args.order.now calls invoked
-    are) ranked.pairs ranked.room room c.in_ok-plan.ensures _
+    takes calls (told_by_calls done pending c.args.end c.args.order.now earlier invoked are)
+    ranked.pairs ranked.room room c.in_ok-plan.ensures _
     (c.deref-2.ensures.value ∙ c.in_ok-answers.ensures none
     ∙ ap (map (λ (o : PendingCall). answer_of puts None o.op o.first)) c.deref.ensures.value))

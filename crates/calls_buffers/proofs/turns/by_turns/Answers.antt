@@ -1,8 +1,6 @@
 use Rattle.std.proofs.Common.{◌≡◌, inl, inr, length, ap, sym, ◌∙◌}
-use Rattle.std.proofs.Common.{subst, arith, count_by}
+use Rattle.std.proofs.Common.{subst, arith}
 use Rattle.std.specs.List.Sorted.{IsPermutation}
-use Rattle.calls_core.specs.declared.history.PendingCall.{PendingCall}
-use Rattle.calls_buffers.specs.Counts.{is_consume}
 use Rattle.calls_buffers.specs.Outcomes.{AreInTurn, AreTakenInTurn}
 use Rattle.calls_buffers.specs.Turns.{puts_of, takes_of, AreApart}
 use Rattle.calls_buffers.specs.Accesses.{taken_item}
@@ -11,7 +9,6 @@ use Rattle.calls_buffers.proofs.InTurn.{AreLasting, lasting_puts, lasting_done, 
 use Rattle.calls_buffers.proofs.InTurn.{puts_apart, takes_apart, count_puts, count_takes}
 use Rattle.calls_buffers.proofs.InTurn.{puts_listed}
 use Rattle.calls_buffers.proofs.turns.by_turns.Goals as goal
-use Rattle.calls_buffers.proofs.turns.by_turns.Goals.{else-are_apart-via-then-are_apart+else-all_pending_takes-eq0, else-are_apart-via-else-are_apart}
 use Rattle.calls_buffers.proofs.turns.by_turns.Goals.{else-are_apart-2-via-then-are_apart-2+else-len, else-are_apart-2-via-else-are_apart-2}
 
 pub are_apart-requires : goal.are_apart-requires
@@ -89,14 +86,7 @@ returns-clause-complete c = λ turns.
     (subst (λ zs. IsPermutation zs list) puts c.in_ok-puts_in_order.ensures.moved)
     c.in_ok-puts_in_order.ensures.sorted) in
     let yes = c.are_apart.ensures.1 apart in
-    elim c.else-are_apart.branch [
-      | else-are_apart-via-then-are_apart+else-all_pending_takes-eq0 w ↦
-          w.if-all_pending_takes-eq0.false (w.all_pending_takes.ensures
-          ∙ ap (count_by (λ (o : PendingCall). is_consume o.op))
-          w.deref-then-are_apart.ensures.value
-          ∙ h.none)
-      | else-are_apart-via-else-are_apart w ↦ (let no = w.if-are_apart.false in cc)
-    ] in
+    let no = c.if-are_apart.false in cc in
     let in_turn_out : AreTakenInTurn done pending → ⊥ = λ h.
     let list = c.in_ok-takes_in_order.takes_in_order.items in
     let apart = subst AreApart (sym c.deref-7.ensures.value)

@@ -1,4 +1,4 @@
-use Rattle.std.proofs.Common.{◌<◌, ◌≤◌, length, arith, rules}
+use Rattle.std.proofs.Common.{arith}
 use Rattle.std.proofs.lemmas.Grind.{common_steps}
 use Rattle.calls_shapes.specs.Tallies.{tally_at}
 use Rattle.calls_shapes.proofs.TallyLemmas.{tallies_more}

@@ -1,15 +1,12 @@
 use Rattle.std.proofs.Common.{◌≤◌, length}
-use Rattle.calls_turns.specs.Sweeps.{IsUnmet}
-use Rattle.calls_turns.proofs.Stretches.{Completes}
+use Rattle.calls_turns.proofs.Leads.{IsLeading}
 use Rattle.calls_turns.proofs.chaining.steps_of.Given as goal
 
-abbrev pub invariant-back : goal.invariant-back
-invariant-back l = record {
-  within : l.turn ≤ length l.fills;
-  unmet : IsUnmet l.end l.turns l.takers l.fills l.turn l.pending;
-  completes : Completes l.end l.turns l.takers (length l.fills) l.fn.demand.at l.steps.items l.turn
-      l.pending.at;
+abbrev pub invariant-loop-k : goal.invariant-loop-k
+invariant-loop-k l = record {
+  within : l.k ≤ length l.fills;
+  leads : IsLeading l.end l.turns l.takers l.fills l.fn.demand.at l.fn.needed.items l.k l.lead;
 }
 
-abbrev pub decreases-back : goal.decreases-back
-decreases-back l = l.turn
+abbrev pub decreases-loop-k : goal.decreases-loop-k
+decreases-loop-k l = l.k

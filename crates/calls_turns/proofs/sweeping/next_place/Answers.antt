@@ -1,13 +1,13 @@
-use Rattle.std.proofs.Common.{◌≡◌, ◌<◌, ℕ, length, get_or, arith, subst, sym, inl}
+use Rattle.std.proofs.Common.{◌≡◌, ◌<◌, ℕ, length, get_or, arith, subst, sym, inl, MatchOption}
 use Rattle.calls_turns.specs.Sweeps.{turn_at}
-use Rattle.calls_turns.specs.Swept.{IsChoice}
+use Rattle.calls_turns.specs.Swept.{IsChosen, NobodyChosen}
 use Rattle.calls_turns.proofs.Filling.{free_below, none_chosen, closed}
 use Rattle.calls_turns.proofs.sweeping.next_place.Goals as goal
 use Rattle.calls_turns.proofs.sweeping.next_place.Goals.{else-k-turns-via-then-k-turns+else-turns-k}
 use Rattle.calls_turns.proofs.sweeping.next_place.Goals.{else-k-turns-via-else-k-turns}
 
-pub first_due-requires : goal.first_due-requires
-first_due-requires c =
+pub chosen-requires : goal.chosen-requires
+chosen-requires c =
     let s = c.args.sweep.now in
     let takers = c.args.takers.now in
     subst (λ l. (i : ℕ) → i < length l → get_or l i 0 < length takers) (sym c.deref.ensures.value)
@@ -24,10 +24,11 @@ returns-then-turns-k-clause-none c end filled =
     let turns = c.args.turns.now in
     let k = c.len-k.result in
     let e : k ≡ length s.fills.items = omega (arith, c.len-k.ensures, s.fills.ok) in
-    none_chosen end turns takers s.fills.items s.next s.free.items c.args.at k c.first_due.result
-    filled c.requires.split c.requires.later e c.if-k-turns.true
-    (subst (λ l. IsChoice takers l (turn_at turns k).item (length l) c.first_due.result)
-    c.deref.ensures.value c.first_due.ensures)
+    let v = (turn_at turns k).item in
+    none_chosen turns takers s.fills.items s.next s.free.items c.args.at k c.chosen.result
+    c.requires.split c.requires.later e c.if-k-turns.true
+    (subst (λ l. MatchOption c.chosen.result (NobodyChosen takers l v)
+    (λ place. IsChosen takers l v place)) c.deref.ensures.value c.chosen.ensures)
 
 pub returns-else-k-turns-clause-none : goal.returns-else-k-turns-clause-none
 returns-else-k-turns-clause-none c end filled =
@@ -38,7 +39,7 @@ returns-else-k-turns-clause-none c end filled =
     let e : k ≡ length s.fills.items = omega (arith, c.len-k.ensures, s.fills.ok) in
     elim c.else-k-turns.branch [
       | else-k-turns-via-then-k-turns+else-turns-k w ↦
-          closed turns takers c.args.at k (length s.fills.items) e w.if-k-turns.true
+          closed turns takers s.fills.items c.args.at k (length s.fills.items) e w.if-k-turns.true
           w.if-turns-k.false
       | else-k-turns-via-else-k-turns w ↦ inl (omega (arith, w.if-k-turns.false))
     ]
