@@ -1,6 +1,6 @@
 -- Lists whose elements are related one by one.
-use Rattle.std.proofs.Common.{◌≡◌, List, [], ◌∷◌, ◌++◌, refl, ap, sym, ◌∙◌, subst, arith}
-use Rattle.std.proofs.Common.{append_assoc}
+use Rattle.std.proofs.Common.{◌≡◌, ◌≤◌, List, [], ◌∷◌, ◌++◌, length, refl, ap, sym, ◌∙◌, subst}
+use Rattle.std.proofs.Common.{arith, append_assoc}
 use Rattle.std.specs.List.Sorted.{IsPermutation}
 use Rattle.std.proofs.lemmas.List.Sorted.{length_permutation, All-permutation}
 use Rattle.std.proofs.lemmas.List.Sorted.{IsPermutation-refl, IsPermutation-cons}
@@ -134,6 +134,12 @@ joined_moved {X} xs ys h =
     (λ us vs ws k l. IsPermutation-trans (joined us) (joined vs) (joined ws) k l) xs ys h
 
 -- ONE ORDER
+
+-- at most one element
+pub short_pairs : {X : Type 0} (R : X → X → Type 0) (xs : List X) → length xs ≤ 1 → EachPair R xs
+short_pairs R [] le = tt
+short_pairs R (x ∷ []) le = (tt, tt)
+short_pairs R (x ∷ y ∷ xs) le = absurd (omega arith)
 
 pub each_moved : {X : Type 0} (P : X → Type 0) (xs ys : List X) → IsPermutation xs ys → Each P xs
     → Each P ys

@@ -1,11 +1,11 @@
 -- Produces or consumes of which each returned before the next one was invoked.
-use Rattle.std.proofs.Common.{◌≡◌, ℕ, suc, ◌+◌, ◌<◌, ◌≤◌, ◌⊎◌, inl, inr, Bool, true}
+use Rattle.std.proofs.Common.{◌≡◌, ℕ, suc, ◌+◌, ◌<◌, ◌≤◌, ◌⊎◌, inl, inr, Bool, true, false}
 use Rattle.std.proofs.Common.{Option, Some, None, List, [], ◌∷◌, ◌++◌, length, get_or, refl, ap}
 use Rattle.std.proofs.Common.{sym, ◌∙◌, subst, arith, count_by, IsTrue, length-append}
 use Rattle.std.specs.List.{Contains}
 use Rattle.std.specs.List.Sorted.{IsPermutation}
 use Rattle.std.proofs.lemmas.Bool.{cases_lt}
-use Rattle.std.proofs.lemmas.List.Sorted.{All-permutation}
+use Rattle.std.proofs.lemmas.List.Sorted.{All-permutation, length_permutation}
 use Rattle.std.proofs.lemmas.List.Elements.{Contains-append_right}
 use Rattle.calls_core.specs.declared.history.Kind.TheVariants.{Buffer}
 use Rattle.calls_core.specs.declared.history.Op.{Op}
@@ -17,17 +17,18 @@ use Rattle.calls_core.specs.Calls.{IsCallOf, AreCallsOf, Early}
 use Rattle.calls_core.proofs.Lists.{each_weaker, each_append, each_pair_append, all_from_each}
 use Rattle.calls_core.proofs.Lists.{all_pairs_from_each}
 use Rattle.calls_core.proofs.Filters.{each_from_all, along_permutation}
-use Rattle.calls_core.proofs.Counting.{one, count_cons}
+use Rattle.calls_core.proofs.Counting.{one, one_yes, one_no, count_cons}
 use Rattle.calls_buffers.specs.declared.accesses.Access.{Access}
-use Rattle.calls_buffers.specs.Counts.{any_item, is_put, is_take, produces, all_puts}
-use Rattle.calls_buffers.specs.Outcomes.{AreInTurn, AreTakenInTurn}
-use Rattle.calls_buffers.specs.Turns.{puts_of, takes_of, AreApart}
+use Rattle.calls_buffers.specs.Counts.{any_item, is_put, is_take, produces, is_consume, all_puts}
+use Rattle.calls_buffers.specs.Outcomes.{AreInTurn, AreAskedLast, AreTakenInTurn}
+use Rattle.calls_buffers.specs.Turns.{puts_of, takes_of, AreApart, asking_of, asking, AreFewOrApart}
 use Rattle.calls_buffers.specs.Accesses.{put_item, taken_item, produced_item}
 use Rattle.calls_buffers.specs.Accesses.{access_of, accesses, asked_of, asked}
 use Rattle.calls_buffers.specs.kept.Spans.{AreInvokedApart}
 use Rattle.calls_buffers.specs.kept.InTurn.{ByFirst}
 use Rattle.calls_buffers.proofs.Untaking.{passes, took_item}
 use Rattle.calls_buffers.proofs.ByItems.{put_took, asked_item}
+use Rattle.calls_buffers.proofs.Alongside.{short_pairs, each_moved}
 use Rattle.calls_buffers.proofs.AreWindows.{each_contains}
 
 -- NEIGHBOURS
@@ -296,11 +297,6 @@ away_calls f done invoked apart = each_pair_accesses f Away 0 done
     less m n le differ =
         elim (cases_lt m n) [ inl lt ↦ lt | inr ge ↦ absurd (differ (omega arith)) ]
 
-away_few : (list : List Access) → length list ≤ 1 → EachPair AreAway list
-away_few [] le = tt
-away_few (a ∷ []) le = (tt, tt)
-away_few (a ∷ b ∷ list) le = absurd (omega arith)
-
 pub puts_apart : (n end : ℕ) (done : List Call) (pending : List PendingCall) (list : List Access)
     → AreCallsOf (Buffer n) done pending end → AreInvokedApart done pending
     → AreInTurn done pending → IsPermutation (puts_of end done pending) list → ByFirst list
@@ -314,7 +310,8 @@ puts_apart n end done pending list calls invoked turns moved sorted =
     (each_pair_append AreAway (accesses put_item 0 done) (asked end 0 pending)
     (away_calls put_item done invoked.completed (λ c d k l has too.
     turns.apart c d k l (put c has) (put d too)))
-    (away_few (asked end 0 pending) (omega (arith, turns.few, count_all_asked end 0 pending)))
+    (short_pairs AreAway (asked end 0 pending)
+    (omega (arith, turns.few, count_all_asked end 0 pending)))
     (each_accesses put_item (λ first last. Each (λ (b : Access). Away first last b.first b.last)
     (asked end 0 pending)) 0 done (each_contains (λ (c : Call). HasItem put_item c
     → Each (λ (b : Access). Away c.first c.last b.first b.last) (asked end 0 pending)) done
@@ -323,7 +320,7 @@ puts_apart n end done pending list calls invoked turns moved sorted =
     → Away c.first c.last o.first end) pending (λ o l is.
     inl (turns.last c o k l (put c has) is))))))))
 
-pub takes_apart : (n end : ℕ) (done : List Call) (pending : List PendingCall) (list : List Access)
+takes_apart : (n end : ℕ) (done : List Call) (pending : List PendingCall) (list : List Access)
     → AreCallsOf (Buffer n) done pending end → AreInvokedApart done pending
     → AreTakenInTurn done pending → IsPermutation (takes_of done) list → ByFirst list
     → AreApart list
@@ -333,6 +330,83 @@ takes_apart n end done pending list calls invoked turns moved sorted =
     (away_moved (takes_of done) list moved (away_calls taken_item done invoked.completed
     (λ c d k l has too. turns.apart c d k l (took_item any_item c.op c.reply ∙ has)
     (took_item any_item d.op d.reply ∙ too))))
+
+-- PENDING CONSUMES
+
+each_asking : (end : ℕ) (P : ℕ → ℕ → Type 0) (i : ℕ) (os : List PendingCall)
+    → Each (λ (o : PendingCall). IsTrue (is_consume o.op) → P o.first end) os
+    → Each (λ (a : Access). P a.first a.last) (asking end i os)
+each_asking end P i [] h = tt
+each_asking end P i (o ∷ os) h =
+    each_append (λ (a : Access). P a.first a.last) (asking_of end i o (is_consume o.op))
+    (asking end (i + 1) os) (own (is_consume o.op) refl) (each_asking end P (i + 1) os h.1)
+  where
+    own : (b : Bool) → is_consume o.op ≡ b
+        → Each (λ (a : Access). P a.first a.last) (asking_of end i o b)
+    own false e = tt
+    own true e = (h.0 e, tt)
+
+count_asking : (end i : ℕ) (os : List PendingCall)
+    → length (asking end i os) ≡ count_by (λ (o : PendingCall). is_consume o.op) os
+count_asking end i [] = refl
+count_asking end i (o ∷ os) = own (is_consume o.op) refl (count_asking end (i + 1) os)
+    (count_cons (λ (p : PendingCall). is_consume p.op) o os)
+  where
+    own : (b : Bool) → is_consume o.op ≡ b
+        → length (asking end (i + 1) os) ≡ count_by (λ (p : PendingCall). is_consume p.op) os
+        → count_by (λ (p : PendingCall). is_consume p.op) (o ∷ os)
+        ≡ one (is_consume o.op) + count_by (λ (p : PendingCall). is_consume p.op) os
+        → length (asking_of end i o b ++ asking end (i + 1) os)
+        ≡ count_by (λ (p : PendingCall). is_consume p.op) (o ∷ os)
+    own false e rest q = omega (arith, q, rest, one_no (is_consume o.op) e)
+    own true e rest q = omega (arith, q, rest, one_yes (is_consume o.op) e)
+
+-- after those that returned an item
+module _ (n end : ℕ) (done : List Call) (pending : List PendingCall) (list : List Access)
+    (calls : AreCallsOf (Buffer n) done pending end) (moved : IsPermutation (takes_of done) list)
+  where
+    pub lasting_takes : AreLasting list
+    lasting_takes = lasting_moved (takes_of done) list moved
+        (lasting_done taken_item n end done pending calls)
+
+    pub lasting_all : AreLasting (list ++ asking end 0 pending)
+    lasting_all = each_append (λ (a : Access). a.first ≤ a.last) list (asking end 0 pending)
+        lasting_takes (each_asking end (λ first last. first ≤ last) 0 pending
+        (each_weaker (Early end) (λ (o : PendingCall). IsTrue (is_consume o.op) → o.first ≤ end)
+        (λ o lt is. omega (arith, lt)) pending calls.early))
+
+    apart_all : AreAskedLast done pending → AreApart list → AreApart (list ++ asking end 0 pending)
+    apart_all turns apart =
+        let others : List Access = asking end 0 pending in
+        each_pair_append (λ (a b : Access). a.last < b.first) list others apart
+        (short_pairs (λ (a b : Access). a.last < b.first) others
+        (omega (arith, turns.few, count_asking end 0 pending)))
+        (each_moved (λ (a : Access). Each (λ (b : Access). a.last < b.first) others) (takes_of done)
+        list moved (each_accesses taken_item
+        (λ first last. Each (λ (b : Access). last < b.first) others) 0 done
+        (each_contains (λ (c : Call). HasItem taken_item c
+        → Each (λ (b : Access). c.last < b.first) others) done
+        (λ c k has. each_asking end (λ first last. c.last < first) 0 pending
+        (each_contains (λ (o : PendingCall). IsTrue (is_consume o.op) → c.last < o.first) pending
+        (λ o l is. turns.last c o k l (took_item any_item c.op c.reply ∙ has) is))))))
+
+    pub in_turn : AreInvokedApart done pending → AreTakenInTurn done pending → ByFirst list
+        → AreApart list
+        × AreFewOrApart (length (puts_of end done pending)) list (asking end 0 pending)
+    in_turn invoked turns sorted =
+        let apart = takes_apart n end done pending list calls invoked turns moved sorted in (
+          apart,
+          elim turns.rest [
+            | inl few ↦ inl (omega (
+              arith,
+              few,
+              count_puts end done pending,
+              count_takes done,
+              length_permutation (takes_of done) list moved,
+            ))
+            | inr last ↦ inr (apart_all last apart)
+          ],
+        )
 
 -- the produces, as they are listed
 pub puts_listed : (end : ℕ) (done cs : List Call) (pending os : List PendingCall)

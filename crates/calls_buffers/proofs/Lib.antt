@@ -36,6 +36,6 @@ pub mod InvokedApart
 pub mod Answering
 pub mod Timing
 pub mod Takings
-pub mod PutSteps
+pub mod Spares
 pub mod PutTurns
 pub mod Settled

@@ -1,12 +1,13 @@
 -- The accesses of the calls of a linearization, in its order.
 use Rattle.std.proofs.Common.{◌≡◌, ℕ, ◌+◌, ◌<◌, ◌≤◌, ◌⊎◌, inl, inr, Bool, true, false, List}
 use Rattle.std.proofs.Common.{[], ◌∷◌, ◌++◌, map, Option, Some, None, refl, ap, sym, ◌∙◌}
-use Rattle.std.proofs.Common.{subst, arith, append_assoc, count_by}
+use Rattle.std.proofs.Common.{subst, arith, append_assoc}
 use Rattle.std.specs.List.Sorted.{IsPermutation}
 use Rattle.std.proofs.lemmas.Option.{same_Some, none-some}
 use Rattle.std.proofs.lemmas.List.{map-append}
 use Rattle.std.proofs.lemmas.List.Sorted.{IsPermutation-refl, IsPermutation-trans}
 use Rattle.std.proofs.lemmas.List.Sorted.{IsPermutation-append_left, IsPermutation-append_right}
+use Rattle.std.proofs.lemmas.List.Sorted.{IsPermutation-append_comm}
 use Rattle.calls_core.specs.declared.history.Kind.TheVariants.{Buffer}
 use Rattle.calls_core.specs.declared.history.Op.{Op}
 use Rattle.calls_core.specs.declared.history.Op.TheVariants.{Advance, Read, Await, Ticket, P, V}
@@ -21,12 +22,11 @@ use Rattle.calls_core.specs.Linearizations.{IsLegalHistory, KeepsOrder, initial,
 use Rattle.calls_core.specs.Linearizations.{answered_one, answered_calls}
 use Rattle.calls_core.specs.Calls.{AreCallsOf}
 use Rattle.calls_core.proofs.Lists.{each_weaker, each_append}
-use Rattle.calls_core.proofs.Counting.{one, count_cons}
 use Rattle.calls_core.proofs.Filters.{permutation_same}
 use Rattle.calls_turns.specs.declared.turn.Taker.{Taker}
 use Rattle.calls_buffers.specs.declared.accesses.Place.TheVariants.{Pending}
 use Rattle.calls_buffers.specs.declared.accesses.Access.{Access}
-use Rattle.calls_buffers.specs.Counts.{any_item, is_consume, took_one, is_take}
+use Rattle.calls_buffers.specs.Counts.{is_consume}
 use Rattle.calls_buffers.specs.Turns.{puts_of, takes_of, takers_of, asker_of, askers_of}
 use Rattle.calls_buffers.specs.Accesses.{AreWithin}
 use Rattle.calls_buffers.specs.Accesses.{produced_item, put_item, taken_item}
@@ -332,45 +332,6 @@ module _ (t end : ℕ) (answer : PendingCall → Option Reply) where
   asked_of_all i (o ∷ os) h =
       own_asked i o os (answered_calls t answer os) h.0 (answer o) (asked_of_all (i + 1) os h.1)
 
--- none of those takes an item out
-takes_none : (op : Op) (r : Reply) → took_one any_item op r ≡ false → taken_item op r ≡ None
-takes_none Consume Done e = refl
-takes_none Consume (Number v) e = absurd (cc)
-takes_none Consume Timeout e = refl
-takes_none (Produce v) r e = refl
-takes_none Advance r e = refl
-takes_none Read r e = refl
-takes_none (Await v) r e = refl
-takes_none Ticket r e = refl
-takes_none (P i) r e = refl
-takes_none (V i) r e = refl
-takes_none (PBoth i j) r e = refl
-takes_none (Put v) r e = refl
-takes_none Get r e = refl
-
-empty_lists : List Call → List (List Access)
-empty_lists [] = []
-empty_lists (c ∷ cs) = [] ∷ empty_lists cs
-
-empty_joined : (cs : List Call) → joined (empty_lists cs) ≡ []
-unfolding empty_lists
-empty_joined [] = refl
-empty_joined (c ∷ cs) = empty_joined cs
-
-no_or_yes : (b : Bool) → one b ≡ 0 → b ≡ false
-no_or_yes true e = absurd (omega (arith, e))
-no_or_yes false e = refl
-
-empty_match : (end : ℕ) (cs : List Call) → count_by (is_take any_item) cs ≡ 0
-    → Both (Matches taken_item end) (empty_lists cs) cs
-unfolding empty_lists
-empty_match end [] e = tt
-empty_match end (c ∷ cs) e = (
-  subst (λ p. Match end c p []) (sym (takes_none c.op c.reply (no_or_yes (is_take any_item c)
-      (omega (arith, e, count_cons (is_take any_item) c cs))))) tt,
-  empty_match end cs (omega (arith, e, count_cons (is_take any_item) c cs)),
-)
-
 -- TAKERS
 
 pub record IsTakerOf (x : Taker) (a : Access) : Type 0 where
@@ -486,11 +447,18 @@ pub record ArePutsOf (end : ℕ) (done : List Call) (pending : List PendingCall)
   pub left : Each (IsOpen end) rest
   pub all : IsPermutation (puts_of end done pending) (joined lists ++ rest)
 
--- the consumes in its order
-pub record AreTakesOf (end : ℕ) (done : List Call) (cs : List Call) : Type 0 where
+-- the consumes in its order: completed ones, and some that are pending
+pub record AreTakesIn (end : ℕ) (done : List Call) (pending : List PendingCall) (cs : List Call)
+    : Type 0 where
   pub lists : List (List Access)
+  pub extra : List Access
+  pub takers : List Taker
+  pub rest : List Taker
   pub are : Both (Matches taken_item end) lists cs
-  pub all : IsPermutation (takes_of done) (joined lists)
+  pub both : Both IsTakerOf takers extra
+  pub left : Each (λ (x : Taker). end ≤ x.by) rest
+  pub all : IsPermutation (takes_of done ++ extra) (joined lists)
+  pub asks : IsPermutation (askers_of end 0 pending) (takers ++ rest)
 
 -- those who take items out, in its order, and those who don't
 pub record AreTakersIn (end : ℕ) (done : List Call) (pending : List PendingCall) (cs : List Call)
@@ -551,54 +519,51 @@ module _ (n t : ℕ) (done : List Call) (pending : List PendingCall) (cs : List 
             (joined_moved (a.lists ++ own) r.list r.moved))));
       }
 
-  pub takes : count_by (is_take any_item) answered ≡ 0 → AreTakesOf end done cs
-  takes none =
-      let empty : List (List Access) = empty_lists answered in
+  pub takes : AreTakesIn end done pending cs
+  takes =
+      let a = askers_of_all t end l.answer 0 pending in
       let own : List (List Access) = lists taken_item 0 done in
-      let r = both_moved (Matches taken_item end) (answered ++ done) cs l.each_once (empty ++ own)
-      (both_append (Matches taken_item end) empty own answered done
-      (empty_match end answered none) (lists_match taken_item end 0 done)) in
+      let r = both_moved (Matches taken_item end) (answered ++ done) cs l.each_once (a.lists ++ own)
+      (both_append (Matches taken_item end) a.lists own answered done a.are
+      (lists_match taken_item end 0 done)) in
       record {
         lists = r.list;
+        extra = joined a.lists;
+        takers = a.takers;
+        rest = a.rest;
         are = r.both;
+        both = a.both;
+        left = a.left;
         all = IsPermutation-trans _ _ _
-            (permutation_same (takes_of done) (joined (empty ++ own))
-            (sym (lists_joined taken_item 0 done)
-            ∙ ap (λ zs. zs ++ joined own) (sym (empty_joined answered))
-            ∙ sym (joined_append empty own)))
-            (joined_moved (empty ++ own) r.list r.moved);
+            (IsPermutation-append_comm (takes_of done) (joined a.lists))
+            (IsPermutation-trans _ _ _
+            (permutation_same (joined a.lists ++ takes_of done) (joined (a.lists ++ own))
+            (ap (λ zs. joined a.lists ++ zs) (sym (lists_joined taken_item 0 done))
+            ∙ sym (joined_append a.lists own)))
+            (joined_moved (a.lists ++ own) r.list r.moved));
+        asks = a.all;
       }
 
   pub takers_in : AreTakersIn end done pending cs
   takers_in =
-      let a = askers_of_all t end l.answer 0 pending in
-      let own : List (List Access) = lists taken_item 0 done in
+      let q = takes in
       let done_takers : List Taker = takers_of 0 (takes_of done) in
-      let r = both_moved (Matches taken_item end) (answered ++ done) cs l.each_once (a.lists ++ own)
-      (both_append (Matches taken_item end) a.lists own answered done a.are
-      (lists_match taken_item end 0 done)) in
-      let done_both : Both IsTakerOf done_takers (joined own) =
-      subst (Both IsTakerOf done_takers) (sym (lists_joined taken_item 0 done))
-      (are_takers 0 (takes_of done)) in
-      let together : Both IsTakerOf (a.takers ++ done_takers) (joined (a.lists ++ own)) =
-      subst (Both IsTakerOf (a.takers ++ done_takers)) (sym (joined_append a.lists own))
-      (both_append IsTakerOf a.takers done_takers (joined a.lists) (joined own) a.both done_both) in
-      let s = both_moved IsTakerOf (joined (a.lists ++ own)) (joined r.list)
-      (joined_moved (a.lists ++ own) r.list r.moved) (a.takers ++ done_takers) together in
+      let s = both_moved IsTakerOf (takes_of done ++ q.extra) (joined q.lists) q.all
+      (done_takers ++ q.takers) (both_append IsTakerOf done_takers q.takers (takes_of done) q.extra
+      (are_takers 0 (takes_of done)) q.both) in
       record {
-        lists = r.list;
+        lists = q.lists;
         order = s.list;
-        rest = a.rest;
-        are = r.both;
+        rest = q.rest;
+        are = q.are;
         both = s.both;
-        left = a.left;
+        left = q.left;
         all = IsPermutation-trans _ _ _
-            (IsPermutation-append_right done_takers (askers_of end 0 pending) (a.takers ++ a.rest)
-            a.all)
-            (IsPermutation-trans _ _ _ (to_second done_takers a.takers a.rest)
+            (IsPermutation-append_right done_takers (askers_of end 0 pending) (q.takers ++ q.rest)
+            q.asks)
             (IsPermutation-trans _ _ _
-            (permutation_same (a.takers ++ (done_takers ++ a.rest))
-            ((a.takers ++ done_takers) ++ a.rest)
-            (sym (append_assoc a.takers done_takers a.rest)))
-            (IsPermutation-append_left a.rest (a.takers ++ done_takers) s.list s.moved)));
+            (permutation_same (done_takers ++ (q.takers ++ q.rest))
+            ((done_takers ++ q.takers) ++ q.rest)
+            (sym (append_assoc done_takers q.takers q.rest)))
+            (IsPermutation-append_left q.rest (done_takers ++ q.takers) s.list s.moved));
       }

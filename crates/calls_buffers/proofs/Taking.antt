@@ -4,6 +4,7 @@ use Rattle.std.proofs.Common.{◌≡◌, ℕ, zero, suc, ◌+◌, ◌<◌, ◌�
 use Rattle.std.proofs.Common.{length, map, drop, Some, None, refl, ap, sym, ◌∙◌, subst, arith}
 use Rattle.std.proofs.Common.{append_assoc, length-append}
 use Rattle.std.specs.List.Sorted.{IsPermutation}
+use Rattle.std.proofs.lemmas.Option.{same_Some}
 use Rattle.std.proofs.lemmas.List.{map-append, length-map}
 use Rattle.std.proofs.lemmas.List.Sorted.{IsPermutation-sym, IsPermutation-trans}
 use Rattle.calls_core.specs.declared.history.Kind.TheVariants.{Buffer}
@@ -172,7 +173,7 @@ module _ (n end : ℕ) (rest : List Access) (later : Each (IsOpen end) rest) whe
           u.moment,
           u.rises,
           record {
-            item = λ v e. h.0.item v e ∙ t.item ∙ sym head;
+            item = λ v w e f. h.0.item v e ∙ t.item ∙ sym head ∙ same_Some q.item w f;
             turn_from = omega (arith, put.0, u.rises);
             turn_by = late u.moment end n (q ∷ inside) (joined ps ++ rest) fits yet u.times.early;
             from = omega (arith, h.0.from, t.first, u.first);

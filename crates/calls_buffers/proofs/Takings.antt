@@ -55,12 +55,12 @@ use Rattle.calls_buffers.proofs.Timing.{IsTimed, AreOneByOne, last_put_or, AreDu
 use Rattle.calls_buffers.proofs.Timing.{all_last, all_precede, all_have_room, room_left}
 use Rattle.calls_buffers.proofs.Timing.{puts_differ}
 
-none : {X : Type 0} (y : X) → Contains [] y → ⊥
+pub none : {X : Type 0} (y : X) → Contains [] y → ⊥
 none y (k, lt, e) = omega arith
 
 -- DIFFERENT NUMBERS
 
-abbrev Differ : {X : Type 0} → (X → ℕ) → List X → Type 0
+abbrev pub Differ : {X : Type 0} → (X → ℕ) → List X → Type 0
 Differ f xs = EachPair (λ x y. f x ≡ f y → ⊥) xs
 
 abbrev is_at : {X : Type 0} → (X → ℕ) → ℕ → X → Bool
@@ -114,7 +114,7 @@ differ_once f (x ∷ xs) h = (
   differ_once f xs (λ v. omega (arith, h v, count_cons (is_at f v) x xs)),
 )
 
-differ_moved : {X : Type 0} (f : X → ℕ) (xs ys : List X) → IsPermutation xs ys → Differ f xs
+pub differ_moved : {X : Type 0} (f : X → ℕ) (xs ys : List X) → IsPermutation xs ys → Differ f xs
     → Differ f ys
 differ_moved f xs ys moved h = differ_once f ys (λ v. omega (
   arith,
@@ -124,7 +124,7 @@ differ_moved f xs ys moved h = differ_once f ys (λ v. omega (
 
 -- ACCESSES
 
-each_access : (P : ℕ → Type 0) (f : Op → Reply → Option ℕ) (i : ℕ) (cs : List Call)
+pub each_access : (P : ℕ → Type 0) (f : Op → Reply → Option ℕ) (i : ℕ) (cs : List Call)
     → Each (λ (c : Call). P c.first) cs → Each (λ (a : Access). P a.first) (accesses f i cs)
 each_access P f i [] h = tt
 each_access P f i (c ∷ cs) h =
@@ -135,7 +135,7 @@ each_access P f i (c ∷ cs) h =
     own None = tt
     own (Some v) = (h.0, tt)
 
-accesses_differ : (f : Op → Reply → Option ℕ) (i : ℕ) (cs : List Call)
+pub accesses_differ : (f : Op → Reply → Option ℕ) (i : ℕ) (cs : List Call)
     → Differ (λ (c : Call). c.first) cs → Differ (λ (a : Access). a.first) (accesses f i cs)
 accesses_differ f i [] h = tt
 accesses_differ f i (c ∷ cs) h =
@@ -152,14 +152,14 @@ accesses_differ f i (c ∷ cs) h =
     across None = tt
     across (Some v) = (each_access (λ n. c.first ≡ n → ⊥) f (i + 1) cs h.0, tt)
 
-record HasAccessAt (list : List Access) (c : Call) (v : ℕ) : Type 0 where
-  access : Access
-  known : Contains list access
-  item : access.item ≡ v
-  first : access.first ≡ c.first
-  last : access.last ≡ c.last
+pub record HasAccessAt (list : List Access) (c : Call) (v : ℕ) : Type 0 where
+  pub access : Access
+  pub known : Contains list access
+  pub item : access.item ≡ v
+  pub first : access.first ≡ c.first
+  pub last : access.last ≡ c.last
 
-access_at : (f : Op → Reply → Option ℕ) (i : ℕ) (cs : List Call) (c : Call) (v : ℕ)
+pub access_at : (f : Op → Reply → Option ℕ) (i : ℕ) (cs : List Call) (c : Call) (v : ℕ)
     → Contains cs c → f c.op c.reply ≡ Some v → HasAccessAt (accesses f i cs) c v
 access_at f i [] c v h e = absurd (none c h)
 access_at f i (x ∷ cs) c v (zero, lt, s) e = own (f x.op x.reply)
@@ -211,14 +211,14 @@ record IsTaker (done : List Call) (pending : List PendingCall) (end : ℕ) (take
   lasts : x.from ≤ x.by
   begun : x.from < end
 
-record HasTaker (list : List Taker) (a : Access) : Type 0 where
-  taker : Taker
-  known : Contains list taker
-  item : taker.item ≡ Some a.item
-  from : taker.from ≡ a.first
-  by : taker.by ≡ a.last
+pub record HasTaker (list : List Taker) (a : Access) : Type 0 where
+  pub taker : Taker
+  pub known : Contains list taker
+  pub item : taker.item ≡ Some a.item
+  pub from : taker.from ≡ a.first
+  pub by : taker.by ≡ a.last
 
-taker_for : (i : ℕ) (takes : List Access) (a : Access) → Contains takes a
+pub taker_for : (i : ℕ) (takes : List Access) (a : Access) → Contains takes a
     → HasTaker (takers_of i takes) a
 taker_for i [] a h = absurd (none a h)
 taker_for i (x ∷ takes) a (zero, lt, e) = record {
@@ -245,7 +245,7 @@ each_taker : (P : ℕ → Type 0) (i : ℕ) (takes : List Access)
 each_taker P i [] h = tt
 each_taker P i (a ∷ takes) h = (h.0, each_taker P (i + 1) takes h.1)
 
-takers_differ : (i : ℕ) (takes : List Access) → Differ (λ (a : Access). a.first) takes
+pub takers_differ : (i : ℕ) (takes : List Access) → Differ (λ (a : Access). a.first) takes
     → Differ (λ (x : Taker). x.from) (takers_of i takes)
 takers_differ i [] h = tt
 takers_differ i (a ∷ takes) h = (
@@ -430,11 +430,12 @@ time_within m end moment time is k = elim (cases_lt k m) [
 
 -- THE CALLS
 
-record IsPut (done : List Call) (pending : List PendingCall) (end : ℕ) (p : Access) : Type 0 where
-  put : (w : Window) → w.item ≡ p.item → w.put_first ≡ p.first → w.put_last ≡ p.last
-      → IsCompletedPut done w ⊎ IsPendingPut pending end w
-  lasts : p.first ≤ p.last
-  begun : p.first < end
+pub record IsPut (done : List Call) (pending : List PendingCall) (end : ℕ) (p : Access) : Type 0
+  where
+    pub put : (w : Window) → w.item ≡ p.item → w.put_first ≡ p.first → w.put_last ≡ p.last
+        → IsCompletedPut done w ⊎ IsPendingPut pending end w
+    pub lasts : p.first ≤ p.last
+    pub begun : p.first < end
 
 module _ (n end : ℕ) (done : List Call) (pending : List PendingCall) (takes : List Access)
     (moment : ℕ → ℕ) where
@@ -535,7 +536,7 @@ module _ (n end : ℕ) (done : List Call) (pending : List PendingCall) (takes : 
         | false ↦ λ q. tt
       ] refl
 
-  given_with_take : (k : ℕ) (p : Access) (x : Taker) (t : Turn) → t.item ≡ p.item
+  given_with_take : (k : ℕ) (p : Access) (x : Taker) (t : Turn) → t.item ≡ Some p.item
       → t.from ≡ p.first → IsPut done pending end p → IsTaker done pending end takes x
       → MayTake (moment k) t x
       → Each (IsGiven done pending end) (window_of end p (take_by takes p.item x))
@@ -544,8 +545,8 @@ module _ (n end : ℕ) (done : List Call) (pending : List PendingCall) (takes : 
       subst (λ o. Each (IsGiven done pending end) (window_of end p o)) (sym given.at) (
         record {
           put = h.put (with_take p given.take) refl refl refl;
-          take = elim (g.is (with_take p given.take) (λ v e. may.item v e ∙ item) (sym given.from)
-              (sym given.by)) [ inl q ↦ inl q | inr q ↦ inr (inl q) ];
+          take = elim (g.is (with_take p given.take) (λ v e. may.item v p.item e item)
+              (sym given.from) (sym given.by)) [ inl q ↦ inl q | inr q ↦ inr (inl q) ];
           first = h.begun;
           follows = omega (arith, from, may.turn_from, may.by, given.by);
         },
@@ -657,7 +658,7 @@ module _ (n end : ℕ) (done : List Call) (pending : List PendingCall) (takes : 
         window = with_take p given.take;
         known = subst (λ o. Contains (window_of end p o ++ taken_windows end takes puts order)
             (with_take p given.take)) (sym given.at) (zero, omega arith, refl);
-        is = sym (taken.0.item v (ap (λ (z : Taker). z.item) e ∙ own));
+        is = sym (taken.0.item v p.item (ap (λ (z : Taker). z.item) e ∙ own) refl);
         at = sym given.from ∙ ap (λ (z : Taker). z.from) e;
       }
   has_take k (p ∷ puts) (x ∷ order) taken xs y v own (suc j, l, e) =
@@ -708,7 +709,7 @@ module _ (n end : ℕ) (done : List Call) (pending : List PendingCall) (takes : 
 
 module _ (end : ℕ) (done : List Call) (pending : List PendingCall)
     (within : AreWithin end done pending) where
-  a_put : (p : Access) → Contains (puts_of end done pending) p → IsPut done pending end p
+  pub a_put : (p : Access) → Contains (puts_of end done pending) p → IsPut done pending end p
   a_put p h = elim (Contains-append_cases (accesses put_item 0 done) (asked end 0 pending) p h) [
     | inl here ↦ completed (access_known put_item 0 done p here)
     | inr there ↦ waiting (asked_known end 0 pending p there)

@@ -33,12 +33,19 @@ pub record AreInTurn (done : List Call) (pending : List PendingCall) : Type 0 wh
       → IsTrue (is_put any_item c) → IsTrue (produces any_item o.op) → c.last < o.first
   pub few : count_by (λ (o : PendingCall). produces any_item o.op) pending ≤ 1
 
+-- at most one consume is pending, and it was invoked after all that returned an item had returned
+pub record AreAskedLast (done : List Call) (pending : List PendingCall) : Type 0 where
+  pub last : (c : Call) (o : PendingCall) → Contains done c → Contains pending o
+      → IsTrue (is_take any_item c) → IsTrue (is_consume o.op) → c.last < o.first
+  pub few : count_by (λ (o : PendingCall). is_consume o.op) pending ≤ 1
+
 -- of two consumes that returned an item, one returned before the other was invoked. And no more
--- items may have been put in than were returned
+-- items may have been put in than were returned, or the pending consume, if any, comes last
 pub record AreTakenInTurn (done : List Call) (pending : List PendingCall) : Type 0 where
   pub apart : (c d : Call) → Contains done c → Contains done d → IsTrue (is_take any_item c)
       → IsTrue (is_take any_item d) → c.first < d.first → c.last < d.first
-  pub few : all_puts any_item done pending ≤ count_by (is_take any_item) done
+  pub rest : (all_puts any_item done pending ≤ count_by (is_take any_item) done)
+      ⊎ AreAskedLast done pending
 
 -- the calls of a buffer with room for n items are of a class that is always decided
 pub record IsSimple (n : ℕ) (past : List Event) : Type 0 where

@@ -1,20 +1,23 @@
 -- The items of a history as turns. If no two produces overlap, it is known in which order the items
 -- are taken out: each turn takes out the next one. If no two consumes overlap, it is known in which
--- order they were put in: each turn puts in the next one.
-use Rattle.std.specs.Prelude.{◌≡◌, ℕ, ◌+◌, ◌-◌, ◌<◌, ◌≤◌, nat_le, List, [], ◌∷◌, ◌++◌, drop, count_by}
-use Rattle.std.specs.Prelude.{slice_index_or, if◌then◌else◌, Bool, true, false, Some, None}
+-- order those items were put in that were returned: each turn puts in the next one. Others are put
+-- in later, while there is room.
+use Rattle.std.specs.Prelude.{◌≡◌, ℕ, zero, suc, ◌+◌, ◌-◌, ◌<◌, ◌≤◌, ◌⊎◌, nat_le, List, [], ◌∷◌}
+use Rattle.std.specs.Prelude.{◌++◌, length, drop, slice_index_or, if◌then◌else◌, Bool, true, false}
+use Rattle.std.specs.Prelude.{Some, None}
 use Rattle.std.specs.List.Sorted.{IsPermutation}
 use Rattle.calls_core.specs.declared.history.PendingCall.{PendingCall}
 use Rattle.calls_core.specs.declared.history.Call.{Call}
 use Rattle.calls_core.specs.Lists.{EachPair}
 use Rattle.calls_turns.specs.declared.turn.Turn.{Turn}
 use Rattle.calls_turns.specs.declared.turn.Taker.{Taker}
+use Rattle.calls_buffers.specs.declared.accesses.Place.TheVariants.{Completed, Pending}
 use Rattle.calls_buffers.specs.declared.accesses.Access.{Access}
 use Rattle.calls_buffers.specs.declared.fault.Flow.{Flow}
 use Rattle.calls_buffers.specs.declared.fault.Flow.TheVariants.{In, Out}
-use Rattle.calls_buffers.specs.Counts.{any_item, is_take, is_consume, all_puts}
+use Rattle.calls_buffers.specs.Counts.{is_consume}
 use Rattle.calls_buffers.specs.Accesses.{put_item, taken_item}
-use Rattle.calls_buffers.specs.Accesses.{accesses, asked, no_access}
+use Rattle.calls_buffers.specs.Accesses.{accesses, asked}
 
 -- the produces that may put an item in. A pending one returns at `end`
 abbrev pub puts_of : ℕ → List Call → List PendingCall → List Access
@@ -54,7 +57,7 @@ last_or end (a ∷ list) = a.last
 abbrev pub taking_turns : ℕ → ℕ → List Access → List Turn
 taking_turns n end [] = []
 taking_turns n end (p ∷ puts) =
-    (record { item = p.item; from = p.first; by = last_or end (drop n (p ∷ puts)) })
+    (record { item = Some p.item; from = p.first; by = last_or end (drop n (p ∷ puts)) })
     ∷ taking_turns n end puts
 
 pub record AreTaken (n end : ℕ) (done : List Call) (pending : List PendingCall)
@@ -65,27 +68,62 @@ pub record AreTaken (n end : ℕ) (done : List Call) (pending : List PendingCall
   pub turns_are : turns ≡ taking_turns n end puts
   pub takers_are : takers ≡ takers_of 0 (takes_of done) ++ askers_of end 0 pending
 
--- ITEMS ARE PUT IN: each before its consume returned, and after the consume was invoked that comes
--- n before it
+-- ITEMS ARE PUT IN: each before its consume returned, and after the consume was invoked that takes
+-- out the item n before it. Items that nobody returned are put in last
 
-abbrev pub first_before : ℕ → List Access → ℕ → ℕ
-first_before n takes k =
-    if nat_le n k then (slice_index_or takes (k - n) no_access).first else 0
+-- a pending consume may take any item out, until `end`. The first of these calls has index i
+abbrev pub asking_of : ℕ → ℕ → PendingCall → Bool → List Access
+asking_of end i o false = []
+asking_of end i o true = record { item = 0; place = Pending i; first = o.first; last = end } ∷ []
 
-abbrev pub putting_turns : ℕ → List Access → ℕ → List Access → List Turn
-putting_turns n all k [] = []
-putting_turns n all k (c ∷ takes) =
-    (record { item = c.item; from = first_before n all k; by = c.last })
-    ∷ putting_turns n all (k + 1) takes
+abbrev pub asking : ℕ → ℕ → List PendingCall → List Access
+asking end i [] = []
+asking end i (o ∷ os) = asking_of end i o (is_consume o.op) ++ asking end (i + 1) os
+
+-- what does not happen is at `end`
+abbrev pub absent : ℕ → Access
+absent end = record { item = 0; place = Completed 0; first = end; last = end }
+
+-- from where on there is room for item number k: the consume was invoked that takes out the item n
+-- before it
+abbrev pub first_before : ℕ → ℕ → List Access → ℕ → ℕ
+first_before n end all k =
+    if nat_le n k then (slice_index_or all (k - n) (absent end)).first else 0
+
+abbrev pub putting_turns : ℕ → ℕ → List Access → ℕ → List Access → List Turn
+putting_turns n end all k [] = []
+putting_turns n end all k (c ∷ takes) =
+    (record { item = Some c.item; from = first_before n end all k; by = c.last })
+    ∷ putting_turns n end all (k + 1) takes
+
+-- turns of so many items that nobody returned, of which the first is number k
+abbrev pub spare_turns : ℕ → ℕ → List Access → ℕ → ℕ → List Turn
+spare_turns n end all k zero = []
+spare_turns n end all k (suc left) =
+    (record { item = None; from = first_before n end all k; by = end })
+    ∷ spare_turns n end all (k + 1) left
+
+-- the turns of so many produces, if all these consumes take items out in their order, and the first
+-- of them are those that returned one
+abbrev pub turns_in : ℕ → ℕ → List Access → List Access → ℕ → List Turn
+turns_in n end takes all puts =
+    putting_turns n end all 0 takes
+    ++ spare_turns n end all (length takes) (puts - length takes)
+
+-- no more is put in than was returned, or pending consumes come after these, one after another: so
+-- there is at most one
+abbrev pub AreFewOrApart : ℕ → List Access → List Access → Type 0
+AreFewOrApart puts takes pending = (puts ≤ length takes) ⊎ AreApart (takes ++ pending)
 
 pub record ArePut (n end : ℕ) (done : List Call) (pending : List PendingCall)
     (turns : List Turn) (takers : List Taker) : Type 0 where
   pub takes : List Access
   pub all : IsPermutation (takes_of done) takes
   pub apart : AreApart takes
-  pub turns_are : turns ≡ putting_turns n takes 0 takes
+  pub rest : AreFewOrApart (length (puts_of end done pending)) takes (asking end 0 pending)
+  pub turns_are : turns ≡ turns_in n end takes (takes ++ asking end 0 pending)
+      (length (puts_of end done pending))
   pub takers_are : takers ≡ takers_of 0 (puts_of end done pending)
-  pub few : all_puts any_item done pending ≤ count_by (is_take any_item) done
 
 -- the turns of a history, and those who take them
 abbrev pub AreTurns : Flow → ℕ → ℕ → List Call → List PendingCall → List Turn → List Taker → Type 0

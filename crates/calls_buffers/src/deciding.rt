@@ -40,8 +40,8 @@ pub enum Outcome {
     Ordered(PlacedCalls),
     /// They have none, since they show this fault.
     Refused(Fault),
-    /// Nothing is said. Some item was put in twice, or a pending consume may have taken one; or
-    /// there is no room at all, or no position after `end`.
+    /// Nothing is said. Produces overlap, and consumes too, and some item was put in twice or a
+    /// pending consume may have taken one. Or there is no room at all, or no position after `end`.
     NotDecided,
 }
 
@@ -240,8 +240,8 @@ fn after(events: &Part<'_, '_>) -> usize {
 
 /// Decides whether the calls of a buffer with room for so many items have a linearization. It does
 /// so if no item is put in twice and no pending consume may have taken one; or no two produces
-/// overlap; or no two consumes overlap and no more was put in than was returned. `end` is a
-/// position after all events.
+/// overlap; or no two consumes overlap, and no more was put in than was returned or the pending
+/// consume, if there is one, comes last. `end` is a position after all events.
 pub fn decide(
     alloc: Global,
     room: usize,

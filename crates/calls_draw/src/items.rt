@@ -215,6 +215,14 @@ pub(crate) fn put_items(out: &mut Pen<'_>, picture: &Picture<'_>, scale: &Scale,
     }
 }
 
+/// Returns how many items a buffer has room for; of another object there is no limit.
+pub(crate) fn room_of(picture: &Picture<'_>, object: usize) -> usize {
+    match picture.kinds.get(object) {
+        Some(Kind::Buffer(room)) => *room,
+        _ => usize::MAX,
+    }
+}
+
 /// Puts how many items a buffer has room for, if that is among the numbers that are drawn.
 pub(crate) fn put_room(out: &mut Pen<'_>, picture: &Picture<'_>, scale: &Scale, panel: &Panel) {
     let Some(Kind::Buffer(room)) = picture.kinds.get(panel.subject.object()) else {

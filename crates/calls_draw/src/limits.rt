@@ -5,7 +5,7 @@ use crate::scale::{Range, Scale};
 use crate::sink::{Pen, end_text, put_line, start_text, xy};
 use calls_buffers::Flow;
 use calls_schedule::Bound;
-use calls_turns::{Clash, Step};
+use calls_turns::{Clash, Crowd, Step};
 use calls_verdict::Fault;
 use std::alloc::{AllocError, Global};
 
@@ -50,15 +50,33 @@ fn add_bounds(limits: &mut Vec<Limit>, bounds: &[Bound]) -> Result<(), AllocErro
     Ok(())
 }
 
-/// Returns how many items at most can be moved by the last step.
+/// Returns how many items at most can be moved.
 fn most_of(clash: &Clash) -> usize {
     match clash {
         Clash::Closed(turn) => *turn,
         Clash::Few { shortages, .. } => shortages.first().map_or(0, |shortage| shortage.turn),
+        Clash::Full(crowd) => crowd.turn,
     }
 }
 
-/// Adds the limits by these steps, and how many items at most can be moved by the last one.
+/// Returns the position by which no more can be moved, after these steps.
+fn place_of(steps: &[Step], clash: &Clash) -> usize {
+    match clash {
+        Clash::Full(crowd) => crowd.at,
+        Clash::Closed(_) | Clash::Few { .. } => steps.last().map_or(0, |step| step.at),
+    }
+}
+
+/// Adds how many items have to be moved for those that consumes do not return.
+fn add_crowd(limits: &mut Vec<Limit>, flow: Flow, crowd: &Crowd) -> Result<(), AllocError> {
+    limits.push(Limit {
+        at: crowd.at,
+        claim: Claim::Least(flow, crowd.turn.saturating_add(1)),
+    })?;
+    Ok(())
+}
+
+/// Adds the limits by these steps, and how many items at most can be moved.
 fn add_steps(
     limits: &mut Vec<Limit>,
     flow: Flow,
@@ -71,12 +89,13 @@ fn add_steps(
             claim: Claim::Least(flow, step.count),
         })?;
     }
-    if let Some(last) = steps.last() {
-        limits.push(Limit {
-            at: last.at,
-            claim: Claim::Most(flow, most_of(clash)),
-        })?;
+    if let Clash::Full(crowd) = clash {
+        add_crowd(limits, flow, crowd)?;
     }
+    limits.push(Limit {
+        at: place_of(steps, clash),
+        claim: Claim::Most(flow, most_of(clash)),
+    })?;
     Ok(())
 }
 
@@ -194,16 +213,20 @@ fn ends_of(picture: &Picture<'_>, limit: &Limit) -> (u64, u64) {
     }
 }
 
-/// Puts a limit: a line, and its words at its position.
+/// Puts a limit: a line, and its words at its position, above a line that begins there and below one
+/// that ends there.
 fn put_limit(out: &mut Pen<'_>, picture: &Picture<'_>, scale: &Scale, limit: &Limit) {
     let y = scale.y(limit.number());
     let (from, to) = ends_of(picture, limit);
     put_line(out, limit.class(), xy(from, y), xy(to, y));
-    let up = y.saturating_sub(5);
     if limit.ends() {
-        start_text(out, b"why end", xy(to.saturating_sub(5), up));
+        start_text(
+            out,
+            b"why end",
+            xy(to.saturating_sub(5), y.saturating_add(12)),
+        );
     } else {
-        start_text(out, b"why", xy(from.saturating_add(4), up));
+        start_text(out, b"why", xy(from.saturating_add(4), y.saturating_sub(5)));
     }
     put_claim(out, limit);
     end_text(out);

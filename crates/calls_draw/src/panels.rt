@@ -1,6 +1,6 @@
 //! The panels below the rows: the numbers and the values of the objects.
 use crate::choice::uses_semaphore;
-use crate::items::{ItemBlocks, held_steps};
+use crate::items::{ItemBlocks, held_steps, room_of};
 use crate::picture::Picture;
 use crate::sink::PutResult;
 use calls_core::{Kind, Op, Placed, Reply};
@@ -100,13 +100,14 @@ fn raised_bounds(start: usize, tally: &Tally) -> Bounds {
     }
 }
 
-/// Returns the bounds of a number that is raised by some calls and lowered by others.
-fn moved_bounds(start: usize, given: &Tally, taken: &Tally) -> Bounds {
+/// Returns the bounds of a number that is raised by some calls and lowered by others, and is at most
+/// the limit.
+fn moved_bounds(start: usize, limit: usize, given: &Tally, taken: &Tally) -> Bounds {
     let least = start.saturating_add(given.returned);
     let most = start.saturating_add(given.called);
     Bounds {
         least: least.saturating_sub(taken.called),
-        most: most.saturating_sub(taken.returned),
+        most: most.saturating_sub(taken.returned).min(limit),
     }
 }
 
@@ -133,7 +134,7 @@ fn count_bounds(
 fn bounds_between(
     alloc: Global,
     picture: &Picture<'_>,
-    start: usize,
+    (start, limit): (usize, usize),
     raising: CountFilter,
     lowering: CountFilter,
 ) -> Result<Vec<Bounds>, AllocError> {
@@ -143,7 +144,7 @@ fn bounds_between(
     let mut bounds = Vec::new(alloc);
     for position in window.from..=window.to {
         if let (Some(given), Some(taken)) = (given.get(position), taken.get(position)) {
-            bounds.push(moved_bounds(start, given, taken))?;
+            bounds.push(moved_bounds(start, limit, given, taken))?;
         }
     }
     Ok(bounds)
@@ -161,11 +162,12 @@ fn bounds_of(
         Subject::Numbers(k) => count_bounds(alloc, picture, start, CountFilter::Tickets(k)),
         Subject::Units(_, i) => {
             let (raising, lowering) = (CountFilter::Adding(i), CountFilter::Taking(i));
-            bounds_between(alloc, picture, start, raising, lowering)
+            bounds_between(alloc, picture, (start, usize::MAX), raising, lowering)
         }
         Subject::Items(k) => {
             let (raising, lowering) = (CountFilter::Produces(k), CountFilter::Consumes(k));
-            bounds_between(alloc, picture, start, raising, lowering)
+            let room = room_of(picture, k);
+            bounds_between(alloc, picture, (start, room), raising, lowering)
         }
         Subject::Values(_) => Ok(Vec::new(alloc)),
     }

@@ -1,4 +1,6 @@
 //! The whole picture, as SVG.
+ghost use Rattle.std.specs.Prelude.{◌<◌, length, IfSome};
+
 use crate::blocks::{BLOCK, lanes_height, put_lanes, put_values};
 use crate::certificate::{evidence_in, evidence_range, put_evidence};
 use crate::curves::{
@@ -17,6 +19,11 @@ use std::alloc::Global;
 
 /// The height of the gap between two panels.
 const GAP: u64 = 34;
+
+/// The width of a letter of a note, and how many letters a line of it has room for in any picture.
+const LETTER: u64 = 8;
+
+const LETTERS: usize = 150;
 
 /// The width of the margin for words to the right of the columns.
 const MARGIN: u64 = 70;
@@ -67,12 +74,34 @@ fn panels_end(picture: &Picture<'_>, rows: usize, panels: &[Panel]) -> u64 {
     y
 }
 
+/// Returns how many letters of a note there is room for in a line, if a picture is so wide.
+fn letters_in(width: u64) -> usize {
+    ((width / LETTER) as usize).max(LETTERS)
+}
+
+/// Returns where a line is cut: at its last space before so many letters, if it has more.
+fn cut_of(line: &[u8], letters: usize) -> Option<usize> {
+    line.get(..letters)?.iter().rposition(|byte| *byte == b' ')
+}
+
+/// Returns the first line of a note, up to a space if it has more letters than so many, and what is
+/// behind it.
+fn first_piece(note: &[u8], letters: usize) -> Option<(&[u8], &[u8])>
+    ensures { IfSome result (λ p. length p.1.now < length note.now) }
+{
+    let (line, behind) = cut_line(note)?;
+    match cut_of(line, letters) {
+        Some(at) => Some((note.get(..at)?, note.get(at.saturating_add(1)..)?)),
+        None => Some((line, behind)),
+    }
+}
+
 /// Returns how many lines a note has, and how many letters the longest one has.
-fn measure_note(note: &[u8]) -> (u64, u64) {
+fn measure_note(note: &[u8], letters: usize) -> (u64, u64) {
     let mut lines = 0u64;
     let mut longest = 0u64;
     let mut rest = note;
-    while let Some((line, behind)) = cut_line(rest) {
+    while let Some((line, behind)) = first_piece(rest, letters) {
         lines = lines.saturating_add(1);
         longest = longest.max(line.len() as u64);
         rest = behind;
@@ -176,7 +205,7 @@ fn put_panels(out: &mut Pen<'_>, picture: &Picture<'_>, rows: usize, panels: &[P
 }
 
 /// Puts the lines of a note.
-fn put_note(out: &mut Pen<'_>, picture: &Picture<'_>, top: u64) {
+fn put_note(out: &mut Pen<'_>, picture: &Picture<'_>, letters: usize, top: u64) {
     let class: &[u8] = if picture.evidence.is_some() {
         b"fault"
     } else {
@@ -184,7 +213,7 @@ fn put_note(out: &mut Pen<'_>, picture: &Picture<'_>, top: u64) {
     };
     let mut y = top;
     let mut rest = picture.note;
-    while let Some((line, behind)) = cut_line(rest) {
+    while let Some((line, behind)) = first_piece(rest, letters) {
         put_text(out, class, xy(24, y), line);
         y = y.saturating_add(NOTE);
         rest = behind;
@@ -196,9 +225,10 @@ pub(crate) fn put_svg(alloc: Global, out: &mut Pen<'_>, picture: &Picture<'_>) -
     let panels = panels_of(alloc, picture)?;
     let rows = picture.rows_before(picture.workers());
     let end = panels_end(picture, rows, panels.as_slice());
-    let (lines, longest) = measure_note(picture.note);
     let right = picture.grid.right().saturating_add(MARGIN);
-    let width = longest.saturating_mul(8).max(right);
+    let letters = letters_in(right);
+    let (lines, longest) = measure_note(picture.note, letters);
+    let width = longest.saturating_mul(LETTER).max(right);
     let height = end.saturating_add(lines.saturating_mul(NOTE));
     put_header(out, width.saturating_add(24), height);
     put_column_names(out, picture);
@@ -207,7 +237,7 @@ pub(crate) fn put_svg(alloc: Global, out: &mut Pen<'_>, picture: &Picture<'_>) -
     put_marks(out, picture);
     put_faulty_column(out, picture, rows);
     put_panels(out, picture, rows, panels.as_slice());
-    put_note(out, picture, end);
+    put_note(out, picture, letters, end);
     out.put(b"</svg>\n");
     Ok(())
 }

@@ -1,6 +1,6 @@
 -- Why items of a buffer can't be put in or taken out in the order that is known, in words.
 use Rattle.std.specs.Prelude.{ℕ, ◌+◌, ◌-◌, List, [], ◌∷◌, ◌++◌, codes, decimal, Option, Some, None}
-use Rattle.std.specs.Prelude.{min, ◌^◌, ◌==◌, if◌then◌else◌, length, slice_get}
+use Rattle.std.specs.Prelude.{min, nat_lt, ◌^◌, ◌==◌, if◌then◌else◌, length, slice_get}
 use Rattle.std.specs.List.{flat_map}
 use Rattle.std.specs.Option.{option_map_or}
 use Rattle.calls_buffers.specs.declared.fault.Flow.{Flow}
@@ -10,7 +10,9 @@ use Rattle.calls_turns.specs.declared.turn.Reason.{Reason}
 use Rattle.calls_turns.specs.declared.turn.Reason.TheVariants.{Due, Takers}
 use Rattle.calls_turns.specs.declared.turn.Shortage.{Shortage}
 use Rattle.calls_turns.specs.declared.turn.Clash.{Clash}
-use Rattle.calls_turns.specs.declared.turn.Clash.TheVariants.{Closed, Few}
+use Rattle.calls_turns.specs.declared.turn.Share.{Share}
+use Rattle.calls_turns.specs.declared.turn.Crowd.{Crowd}
+use Rattle.calls_turns.specs.declared.turn.Clash.TheVariants.{Closed, Few, Full}
 use Rattle.calls_report.specs.Sites.{SiteModel, line_of}
 use Rattle.calls_report.specs.Items.{some, by_line, room_in, room_text}
 
@@ -53,13 +55,13 @@ calls_text Out n = some n (codes "consume")
 
 abbrev pub takers_text : SiteModel → Flow → ℕ → Option ℕ → ℕ → List ℕ
 takers_text s flow v after n =
-    calls_text flow n ++ codes " of " ++ decimal v ++ since_text s after
-    ++ codes " had returned, so "
+    calls_text flow n ++ codes " of " ++ decimal v ++ since_text s after ++ codes " had returned"
 
 -- STEPS
 
 abbrev pub needed_text : SiteModel → Flow → ℕ → ℕ → Option ℕ → ℕ → List ℕ
-needed_text s flow n v after calls = takers_text s flow v after calls ++ least_text flow n
+needed_text s flow n v after calls =
+    takers_text s flow v after calls ++ codes ", so " ++ least_text flow n
 
 abbrev pub reason_text : SiteModel → Flow → ℕ → Reason → List ℕ
 reason_text s flow n Due = due_text s flow n
@@ -150,9 +152,50 @@ abbrev pub few_text : SiteModel → Flow → List Step → List Shortage → ℕ
 few_text s flow steps xs n =
     codes ", but " ++ shortages_text s flow xs ++ others_text s flow (last_position steps) n
 
+-- ITEMS THAT CONSUMES DON'T RETURN ARE TOO MANY
+
+abbrev pub most_taken : ℕ → List ℕ
+most_taken n = codes "at most " ++ decimal n
+
+abbrev pub taken_text : ℕ → List ℕ
+taken_text n = if nat_lt 0 n then most_taken n else codes "none"
+
+abbrev pub share_text : SiteModel → Flow → Share → List ℕ
+share_text s flow x =
+    takers_text s flow x.item x.after x.takers ++ codes ", and consumes return "
+    ++ taken_text x.turns ++ codes " of these items"
+
+abbrev pub next_share : SiteModel → Flow → Share → List ℕ
+next_share s flow x = codes "; " ++ share_text s flow x
+
+abbrev pub further_shares : SiteModel → Flow → List Share → List ℕ
+further_shares s flow xs = flat_map (λ (x : Share). next_share s flow x) xs
+
+abbrev pub listed_shares : SiteModel → Flow → Share → List Share → List ℕ
+listed_shares s flow x xs = share_text s flow x ++ further_shares s flow xs
+
+abbrev pub shares_text : SiteModel → Flow → List Share → List ℕ
+shares_text s flow [] = []
+shares_text s flow (x ∷ xs) = listed_shares s flow x xs
+
+-- what joins steps, if there are some, and what follows
+abbrev pub joint_text : List Step → List ℕ
+joint_text [] = []
+joint_text (x ∷ xs) = codes "; "
+
+abbrev pub total_text : Flow → ℕ → ℕ → List ℕ
+total_text flow n k =
+    codes ", so with the " ++ decimal n ++ codes " that they return " ++ least_text flow (plus k 1)
+
+abbrev pub crowd_text : SiteModel → Flow → List Step → Crowd → List ℕ
+crowd_text s flow steps x =
+    joint_text steps ++ by_line s x.at ++ shares_text s flow x.shares.items
+    ++ total_text flow x.known x.turn ++ closed_text s flow x.turn
+
 abbrev pub clash_text : SiteModel → Flow → List Step → Clash → List ℕ
 clash_text s flow steps (Closed k) = closed_text s flow k
 clash_text s flow steps (Few shortages n) = few_text s flow steps shortages.items n
+clash_text s flow steps (Full crowd) = crowd_text s flow steps crowd
 
 abbrev pub outrun_text : SiteModel → Flow → List Step → Clash → List ℕ
 outrun_text s flow steps clash = steps_text s flow steps ++ clash_text s flow steps clash

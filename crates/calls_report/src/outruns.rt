@@ -9,12 +9,15 @@ ghost use Rattle.calls_report.specs.Outruns.{empty_text, closed_text, was_text, 
 ghost use Rattle.calls_report.specs.Outruns.{only_calls, few_calls, shortage_text, next_shortage};
 ghost use Rattle.calls_report.specs.Outruns.{further_shortages, listed_text};
 ghost use Rattle.calls_report.specs.Outruns.{shortages_text, asked_text, asking_text, others_text};
-ghost use Rattle.calls_report.specs.Outruns.{last_position, few_text, clash_text, outrun_text};
+ghost use Rattle.calls_report.specs.Outruns.{last_position, few_text, most_taken, taken_text};
+ghost use Rattle.calls_report.specs.Outruns.{share_text, next_share, further_shares};
+ghost use Rattle.calls_report.specs.Outruns.{listed_shares, shares_text, joint_text, total_text};
+ghost use Rattle.calls_report.specs.Outruns.{crowd_text, clash_text, outrun_text};
 
 use crate::items::{put_by_line, put_room, put_some, room};
 use crate::refusal::Site;
 use calls_buffers::Flow;
-use calls_turns::{Clash, Reason, Shortage, Step};
+use calls_turns::{Clash, Crowd, Reason, Share, Shortage, Step};
 use ec_text::Output;
 use std::io::Write;
 
@@ -88,7 +91,7 @@ fn put_calls<W: Write>(out: &mut Output<'_, W>, flow: Flow, n: usize)
     }
 }
 
-/// Puts that so many calls of an item had returned.
+/// Puts how many calls of an item had returned.
 fn put_takers<W: Write>(
     out: &mut Output<'_, W>,
     site: &Site<'_>,
@@ -103,7 +106,7 @@ fn put_takers<W: Write>(
     out.put(b" of ");
     out.put_number(item as u64);
     put_since(out, site, after);
-    out.put(b" had returned, so ");
+    out.put(b" had returned");
 }
 
 /// Puts that so many calls of an item had returned, which need so many items.
@@ -119,6 +122,7 @@ fn put_needed<W: Write>(
     ensures { Puts out.old out.new (needed_text site.now flow count item after takers) }
 {
     put_takers(out, site, flow, item, after, takers);
+    out.put(b", so ");
     put_least(out, flow, count);
 }
 
@@ -397,6 +401,117 @@ fn put_few<W: Write>(
     put_others(out, site, flow, last_position(steps), others);
 }
 
+/// Puts that at most so many items are consumed.
+fn put_at_most<W: Write>(out: &mut Output<'_, W>, n: usize)
+    ensures { Puts out.old out.new (most_taken n) }
+{
+    out.put(b"at most ");
+    out.put_number(n as u64);
+}
+
+/// Puts how many items are consumed, at most.
+fn put_taken<W: Write>(out: &mut Output<'_, W>, n: usize)
+    ensures { Puts out.old out.new (taken_text n) }
+{
+    if 0 < n {
+        put_at_most(out, n);
+    } else {
+        out.put(b"none");
+    }
+}
+
+/// Puts how many produces of an item had returned, and how many of these items are consumed.
+fn put_share<W: Write>(out: &mut Output<'_, W>, site: &Site<'_>, flow: Flow, share: &Share)
+    ensures { Puts out.old out.new (share_text site.now flow share.now) }
+{
+    put_takers(out, site, flow, share.item, share.after, share.takers);
+    out.put(b", and consumes return ");
+    put_taken(out, share.turns);
+    out.put(b" of these items");
+}
+
+/// Puts a share after a semicolon.
+fn put_next_share<W: Write>(out: &mut Output<'_, W>, site: &Site<'_>, flow: Flow, share: &Share)
+    ensures { Puts out.old out.new (next_share site.now flow share.now) }
+{
+    out.put(b"; ");
+    put_share(out, site, flow, share);
+}
+
+/// Puts shares, each after a semicolon.
+fn put_further_shares<W: Write>(
+    out: &mut Output<'_, W>,
+    site: &Site<'_>,
+    flow: Flow,
+    shares: &[Share],
+)
+    ensures { Puts out.old out.new (further_shares site.now flow shares.now) }
+{
+    for share in shares {
+        put_next_share(out, site, flow, share);
+    }
+}
+
+/// Puts a share, and further ones, each after a semicolon.
+fn put_listed_shares<W: Write>(
+    out: &mut Output<'_, W>,
+    site: &Site<'_>,
+    flow: Flow,
+    first: &Share,
+    further: &[Share],
+)
+    ensures { Puts out.old out.new (listed_shares site.now flow first.now further.now) }
+{
+    put_share(out, site, flow, first);
+    put_further_shares(out, site, flow, further);
+}
+
+/// Puts shares.
+fn put_shares<W: Write>(out: &mut Output<'_, W>, site: &Site<'_>, flow: Flow, shares: &[Share])
+    ensures { Puts out.old out.new (shares_text site.now flow shares.now) }
+{
+    if let [first, further @ ..] = shares {
+        put_listed_shares(out, site, flow, first, further);
+    }
+}
+
+/// Puts what joins steps, if there are some, and what follows.
+fn put_joint<W: Write>(out: &mut Output<'_, W>, steps: &[Step])
+    ensures { Puts out.old out.new (joint_text steps.now) }
+{
+    if !steps.is_empty() {
+        out.put(b"; ");
+    }
+}
+
+/// Puts how many items had been put in, with those that consumes return.
+fn put_total<W: Write>(out: &mut Output<'_, W>, flow: Flow, known: usize, turn: usize)
+    ensures { Puts out.old out.new (total_text flow known turn) }
+{
+    out.put(b", so with the ");
+    out.put_number(known as u64);
+    out.put(b" that they return ");
+    put_least(out, flow, turn.saturating_add(1));
+}
+
+/// Puts that by a position more items had been put in than there was room for, since consumes do not
+/// return them.
+fn put_crowd<W: Write>(
+    out: &mut Output<'_, W>,
+    site: &Site<'_>,
+    flow: Flow,
+    steps: &[Step],
+    crowd: &Crowd,
+)
+    ensures { Puts out.old out.new (crowd_text site.now flow steps.now crowd.now) }
+{
+    put_joint(out, steps);
+    put_by_line(out, site, crowd.at);
+    put_shares(out, site, flow, &crowd.shares);
+    put_total(out, flow, crowd.known, crowd.turn);
+    put_closed(out, site, flow, crowd.turn);
+}
+
 /// Puts why that can't be.
 fn put_clash<W: Write>(
     out: &mut Output<'_, W>,
@@ -410,6 +525,7 @@ fn put_clash<W: Write>(
     match clash {
         Clash::Closed(turn) => put_closed(out, site, flow, *turn),
         Clash::Few { shortages, others } => put_few(out, site, flow, steps, shortages, *others),
+        Clash::Full(crowd) => put_crowd(out, site, flow, steps, crowd),
     }
 }
 

@@ -2,7 +2,7 @@
 use calls_buffers::Flow;
 use calls_core::{Call, Op, Placed, Reply};
 use calls_schedule::Bound;
-use calls_turns::{Clash, Reason, Step};
+use calls_turns::{Clash, Crowd, Reason, Step};
 use calls_verdict::{Cause, Fault, Misuse, Refusal, Undecided, Verdict};
 use std::io;
 use std::io::Write;
@@ -112,6 +112,18 @@ fn write_bounds<W: Write>(out: &mut W, bounds: &[Bound]) -> io::Result<()> {
     writeln!(out)
 }
 
+/// Writes that more items are put in than are returned and there is room for.
+fn write_crowd<W: Write>(out: &mut W, crowd: &Crowd) -> io::Result<()> {
+    write!(out, " full {}@{} {}", crowd.turn, crowd.at, crowd.known)?;
+    for share in &crowd.shares {
+        write!(out, " {}/{}*{}", share.takers, share.turns, share.item)?;
+        if let Some(after) = share.after {
+            write!(out, "@{after}")?;
+        }
+    }
+    writeln!(out)
+}
+
 /// Writes why not so many items can be put in or taken.
 fn write_clash<W: Write>(out: &mut W, clash: &Clash) -> io::Result<()> {
     match clash {
@@ -125,6 +137,7 @@ fn write_clash<W: Write>(out: &mut W, clash: &Clash) -> io::Result<()> {
             }
             writeln!(out, " +{others}")
         }
+        Clash::Full(crowd) => write_crowd(out, crowd),
     }
 }
 

@@ -28,7 +28,8 @@ use Rattle.calls_turns.specs.declared.assigning.Outcome.TheVariants as outcomes
 use Rattle.calls_turns.specs.Outcomes.{IsOutcome}
 use Rattle.calls_turns.specs.Turns.{MayTake, AreTakenBy, IsTaking}
 use Rattle.calls_turns.specs.Steps.{has_none, is_of, is_within, IsReason, AreSteps, last_at}
-use Rattle.calls_turns.specs.Steps.{IsShortage, IsClash, Refute}
+use Rattle.calls_turns.specs.Steps.{IsShortage, IsShare, IsClash, Refute}
+use Rattle.calls_turns.specs.declared.turn.Share.{Share}
 use Rattle.calls_turns.specs.declared.turn.Shortage.{Shortage}
 use Rattle.calls_turns.specs.declared.turn.Clash.{Clash}
 use Rattle.calls_turns.specs.declared.turn.Clash.TheVariants as clashes
@@ -272,10 +273,17 @@ shortage_moved turns xs ys ss s moved h = record {
   few = h.few;
 }
 
-clash_moved : (turns : List Turn) (xs ys : List Taker) (ss : List Step) (c : Clash)
-    → IsPermutation xs ys → IsClash turns ys ss c → IsClash turns xs ss c
-clash_moved turns xs ys ss (clashes.Closed k) moved h = h
-clash_moved turns xs ys ss (clashes.Few shortages others) moved h = record {
+share_moved : (turns : List Turn) (xs ys : List Taker) (ss : List Step) (p : ℕ) (s : Share)
+    → IsPermutation xs ys → IsShare turns ys ss p s → IsShare turns xs ss p s
+share_moved turns xs ys ss p s moved h = record {
+  counted = omega (arith, h.counted, count_moved (is_within s.item s.after p) xs ys moved);
+  left = h.left;
+}
+
+clash_moved : (end : ℕ) (turns : List Turn) (xs ys : List Taker) (ss : List Step) (c : Clash)
+    → IsPermutation xs ys → IsClash end turns ys ss c → IsClash end turns xs ss c
+clash_moved end turns xs ys ss (clashes.Closed k) moved h = h
+clash_moved end turns xs ys ss (clashes.Few shortages others) moved h = record {
   each = each_weaker (IsShortage turns ys ss) (IsShortage turns xs ss)
       (λ s. shortage_moved turns xs ys ss s moved) shortages.items h.each;
   apart = h.apart;
@@ -283,12 +291,22 @@ clash_moved turns xs ys ss (clashes.Few shortages others) moved h = record {
       ∙ count_moved (λ (x : Taker). has_none x.item && nat_le x.from (last_at ss)) xs ys moved;
   more = h.more;
 }
+clash_moved end turns xs ys ss (clashes.Full x) moved h = record {
+  before = h.before;
+  each = each_weaker (IsShare turns ys ss x.at) (IsShare turns xs ss x.at)
+      (λ s. share_moved turns xs ys ss x.at s moved) x.shares.items h.each;
+  apart = h.apart;
+  count = h.count;
+  spare = h.spare;
+  more = h.more;
+  closed = h.closed;
+}
 
 refute_moved : (end : ℕ) (turns : List Turn) (xs ys : List Taker) (ss : List Step) (c : Clash)
     → IsPermutation xs ys → Refute end turns ys ss c → Refute end turns xs ss c
 refute_moved end turns xs ys ss c moved h = record {
   steps = steps_moved end turns xs ys ss moved h.steps;
-  clashes = clash_moved turns xs ys ss c moved h.clashes;
+  clashes = clash_moved end turns xs ys ss c moved h.clashes;
 }
 
 pub taking_moved : (end : ℕ) (turns : List Turn) (xs ys order : List Taker) → IsPermutation xs ys

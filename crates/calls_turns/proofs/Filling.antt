@@ -35,7 +35,8 @@ use Rattle.calls_turns.specs.Sweeps.{IsFree, IsTargetDue, IsUnmet, IsFilled, Non
 use Rattle.calls_turns.specs.Sweeps.{AreFilled, CantBeTaken}
 use Rattle.calls_turns.specs.Swept.{IsTarget, HaveTurns, HaveTakers, turn_demand}
 use Rattle.calls_turns.specs.Swept.{taker_demand, is_met, fillers, AreSplit, HasCome, AreDueFrom}
-use Rattle.calls_turns.specs.Swept.{AreLater, free_at, IsChoice, IsChosen, NobodyChosen}
+use Rattle.calls_turns.specs.Swept.{AreLater, free_at, IsChoice, IsChosen, NobodyDue}
+use Rattle.calls_turns.specs.Swept.{IsSuited, NobodySuited}
 use Rattle.calls_turns.proofs.Tallies.{one_most}
 
 -- COUNTS
@@ -247,29 +248,51 @@ none_among takers fills next free p item s later none = λ j lt left is from.
       | inr past ↦ absurd (omega (arith, later j past lt))
     ]
 
-none_of : (turns : List Turn) (takers : List Taker) (fills : List Fill) (next : ℕ) (free : List ℕ)
-    (p v : ℕ) (r : Option ℕ) → AreSplit takers fills next free → AreLater takers next p
-    → length fills < length turns → v ≡ (turn_at turns (length fills)).item
-    → MatchOption r (NobodyChosen takers free v) (λ place. IsChosen takers free v place)
-    → IfNone r (CantBeTaken turns takers fills p (length fills))
-none_of turns takers fills next free p v None s later lt e none =
-    inr (inr (record {
-      there = lt;
-      of_item = subst (λ n. NoneLeft takers fills (length fills) p (Some n)) e
-          (none_among takers fills next free p (Some v) s later none.0);
-      of_any = none_among takers fills next free p None s later none.1;
-    }))
-none_of turns takers fills next free p v (Some place) s later lt e chosen = tt
+none_due : (takers : List Taker) (fills : List Fill) (next : ℕ) (free : List ℕ) (p : ℕ)
+    → AreSplit takers fills next free → AreLater takers next p → NobodyDue takers free p → (j : ℕ)
+    → j < length takers → IsFree fills (length fills) j → (taker_at takers j).from ≤ p
+    → (taker_at takers j).by ≤ p → ⊥
+none_due takers fills next free p s later none j lt left from by =
+    elim (cases_lt j next) [
+      | inl before ↦
+          let r = found_free takers fills next free s j before left in
+          omega (
+            arith,
+            by,
+            subst (λ n. p < (taker_at takers n).by) r.2 (none r.0 r.1),
+          )
+      | inr past ↦ omega (arith, later j past lt)
+    ]
 
-pub none_chosen : (turns : List Turn) (takers : List Taker) (fills : List Fill) (next : ℕ)
+none_of : (turns : List Turn) (takers : List Taker) (fills : List Fill) (next : ℕ) (free : List ℕ)
+    (p : ℕ) (o r : Option ℕ) → AreSplit takers fills next free → AreLater takers next p
+    → length fills < length turns → (turn_at turns (length fills)).item ≡ o
+    → MatchOption r (NobodySuited takers free p o) (λ place. IsSuited takers free p o place)
+    → IfNone r (CantBeTaken turns takers fills p (length fills))
+none_of turns takers fills next free p (Some v) None s later lt e none =
+    inr (inr (inl (record {
+      there = lt;
+      item = v;
+      is = e;
+      of_item = none_among takers fills next free p (Some v) s later none.0;
+      of_any = none_among takers fills next free p None s later none.1;
+    })))
+none_of turns takers fills next free p None None s later lt e none =
+    inr (inr (inr (record {
+      spare = e;
+      none = none_due takers fills next free p s later none;
+    })))
+none_of turns takers fills next free p o (Some place) s later lt e suited = tt
+
+pub none_suited : (turns : List Turn) (takers : List Taker) (fills : List Fill) (next : ℕ)
     (free : List ℕ) (p k : ℕ) (r : Option ℕ) → AreSplit takers fills next free
     → AreLater takers next p → k ≡ length fills → k < length turns
-    → MatchOption r (NobodyChosen takers free (turn_at turns k).item)
-    (λ place. IsChosen takers free (turn_at turns k).item place)
+    → MatchOption r (NobodySuited takers free p (turn_at turns k).item)
+    (λ place. IsSuited takers free p (turn_at turns k).item place)
     → IfNone r (CantBeTaken turns takers fills p (length fills))
-none_chosen turns takers fills next free p k r s later e lt choice =
+none_suited turns takers fills next free p k r s later e lt choice =
     none_of turns takers fills next free p (turn_at turns k).item r s later (omega arith)
-    (ap (λ n. (turn_at turns n).item) e) choice
+    (ap (λ n. (turn_at turns n).item) (sym e)) choice
 
 pub closed : (turns : List Turn) (takers : List Taker) (fills : List Fill) (p k n : ℕ) → k ≡ n
     → k < length turns → p < (turn_at turns k).from → CantBeTaken turns takers fills p n
@@ -284,24 +307,24 @@ closed turns takers fills p k n e lt before =
 -- A FILL MORE
 
 -- what is asked of a fill, apart from its place
-record IsFill (end : ℕ) (turns : List Turn) (takers : List Taker) (fills : List Fill) (k : ℕ)
+pub record IsFill (end : ℕ) (turns : List Turn) (takers : List Taker) (fills : List Fill) (k : ℕ)
     (f : Fill) : Type 0 where
   turn : k < length turns
   taker : f.taker < length takers
   unmet : IsUnmet end turns takers fills k f.demand
   may : MayTake f.demand.at (turn_at turns k) (taker_at takers f.taker)
   free : IsFree fills k f.taker
-  preferred : (j : ℕ) → j < length takers → IsFree fills k j
-      → (taker_at takers j).item ≡ Some (turn_at turns k).item
-      → (taker_at takers j).from ≤ f.demand.at
+  preferred : (v j : ℕ) → (turn_at turns k).item ≡ Some v → j < length takers → IsFree fills k j
+      → (taker_at takers j).item ≡ Some v → (taker_at takers j).from ≤ f.demand.at
       → (taker_at takers f.taker).by ≤ (taker_at takers j).by
-  none_left : (taker_at takers f.taker).item ≡ None
-      → NoneLeft takers fills k f.demand.at (Some (turn_at turns k).item)
+  none_left : (v : ℕ) → (turn_at turns k).item ≡ Some v
+      → (taker_at takers f.taker).item ≡ None → NoneLeft takers fills k f.demand.at (Some v)
+  due : (turn_at turns k).item ≡ None → (taker_at takers f.taker).by ≤ f.demand.at
 
-abbrev SameBelow : List Fill → List Fill → ℕ → Type 0
+abbrev pub SameBelow : List Fill → List Fill → ℕ → Type 0
 SameBelow a b k = (i : ℕ) → i < k → fill_at a i ≡ fill_at b i
 
-free_as : (a b : List Fill) (k j : ℕ) → SameBelow a b k → IsFree a k j → IsFree b k j
+pub free_as : (a b : List Fill) (k j : ℕ) → SameBelow a b k → IsFree a k j → IsFree b k j
 free_as a b k j same h = λ i lt e. h i lt (ap (λ (f : Fill). f.taker) (same i lt) ∙ e)
 
 due_as : (turns : List Turn) (takers : List Taker) (a b : List Fill) (k at : ℕ) (t : Target)
@@ -321,14 +344,15 @@ fill_as end turns takers a b k f same h = record {
   };
   may = h.may;
   free = free_as a b k f.taker same h.free;
-  preferred = λ j within free. h.preferred j within
+  preferred = λ v j is within free. h.preferred v j is within
       (free_as b a k j (λ i lt. sym (same i lt)) free);
-  none_left = λ is j within free. h.none_left is j within
+  none_left = λ v is any j within free. h.none_left v is any j within
       (free_as b a k j (λ i lt. sym (same i lt)) free);
+  due = h.due;
 }
 
-filled_at : (end : ℕ) (turns : List Turn) (takers : List Taker) (a b : List Fill) (k : ℕ) (f : Fill)
-    → SameBelow a b k → f ≡ fill_at b k → IsFill end turns takers a k f
+pub filled_at : (end : ℕ) (turns : List Turn) (takers : List Taker) (a b : List Fill) (k : ℕ)
+    (f : Fill) → SameBelow a b k → f ≡ fill_at b k → IsFill end turns takers a k f
     → IsFilled end turns takers b k
 filled_at end turns takers a b k f same e h =
     let g = subst (λ x. IsFill end turns takers b k x) e
@@ -341,9 +365,10 @@ filled_at end turns takers a b k f same e h =
       free = g.free;
       preferred = g.preferred;
       none_left = g.none_left;
+      due = g.due;
     }
 
-fill_of : (end : ℕ) (turns : List Turn) (takers : List Taker) (fills : List Fill) (k : ℕ)
+pub fill_of : (end : ℕ) (turns : List Turn) (takers : List Taker) (fills : List Fill) (k : ℕ)
     → IsFilled end turns takers fills k → IsFill end turns takers fills k (fill_at fills k)
 fill_of end turns takers fills k h = record {
   turn = h.turn;
@@ -353,13 +378,14 @@ fill_of end turns takers fills k h = record {
   free = h.free;
   preferred = h.preferred;
   none_left = h.none_left;
+  due = h.due;
 }
 
-fill_before : (fills : List Fill) (f : Fill) (i : ℕ) → i < length fills
+pub fill_before : (fills : List Fill) (f : Fill) (i : ℕ) → i < length fills
     → fill_at fills i ≡ fill_at (fills ++ f ∷ []) i
 fill_before fills f i lt = sym (get_or_append_left fills (f ∷ []) no_fill i lt)
 
-fill_last : (fills : List Fill) (f : Fill) → f ≡ fill_at (fills ++ f ∷ []) (length fills)
+pub fill_last : (fills : List Fill) (f : Fill) → f ≡ fill_at (fills ++ f ∷ []) (length fills)
 fill_last fills f = sym (get_or_at fills f [] no_fill (length fills) refl)
 
 pub until_more : (fills : List Fill) (f : Fill) (p : ℕ)
@@ -407,7 +433,7 @@ filled_more end turns takers fills f h new until =
     }
 
 -- who is chosen
-pub chosen_within : (takers : List Taker) (free : List ℕ) (v place : ℕ)
+chosen_within : (takers : List Taker) (free : List ℕ) (v place : ℕ)
     → IsChosen takers free v place → place < length free
 chosen_within takers free v place (inl first) = first.within
 chosen_within takers free v place (inr h) = h.1.within
@@ -429,20 +455,54 @@ chosen_last : (takers : List Taker) (free : List ℕ) (v place : ℕ)
 chosen_last takers free v place (inl first) e = absurd (none-some v (sym e ∙ first.of_item))
 chosen_last takers free v place (inr h) e = h.0
 
+-- who is suited
+pub suited_within : (takers : List Taker) (free : List ℕ) (p : ℕ) (o : Option ℕ) (place : ℕ)
+    → IsSuited takers free p o place → place < length free
+suited_within takers free p (Some v) place h = chosen_within takers free v place h
+suited_within takers free p None place h = h.within
+
+suited_item : (takers : List Taker) (free : List ℕ) (p : ℕ) (o : Option ℕ) (place v w : ℕ)
+    → IsSuited takers free p o place → (free_at takers free place).item ≡ Some v → o ≡ Some w
+    → v ≡ w
+suited_item takers free p (Some u) place v w h is e =
+    chosen_item takers free u place v h is ∙ same_Some u w e
+suited_item takers free p None place v w h is e = absurd (none-some w e)
+
+suited_least : (takers : List Taker) (free : List ℕ) (p : ℕ) (o : Option ℕ) (place v i : ℕ)
+    → IsSuited takers free p o place → o ≡ Some v → i < length free
+    → (free_at takers free i).item ≡ Some v
+    → (free_at takers free place).by ≤ (free_at takers free i).by
+suited_least takers free p (Some u) place v i h e lt is =
+    chosen_least takers free u place i h lt (is ∙ sym e)
+suited_least takers free p None place v i h e lt is = absurd (none-some v e)
+
+suited_last : (takers : List Taker) (free : List ℕ) (p : ℕ) (o : Option ℕ) (place v : ℕ)
+    → IsSuited takers free p o place → o ≡ Some v → (free_at takers free place).item ≡ None
+    → IsChoice takers free (Some v) (length free) None
+suited_last takers free p (Some u) place v h e any =
+    subst (λ q. IsChoice takers free q (length free) None) e
+    (chosen_last takers free u place h any)
+suited_last takers free p None place v h e any = absurd (none-some v e)
+
+suited_due : (takers : List Taker) (free : List ℕ) (p : ℕ) (o : Option ℕ) (place : ℕ)
+    → IsSuited takers free p o place → o ≡ None → (free_at takers free place).by ≤ p
+suited_due takers free p (Some u) place h e = absurd (none-some u (sym e))
+suited_due takers free p None place h e = h.by
+
 pub filled_next : (end : ℕ) (turns : List Turn) (takers : List Taker) (fills : List Fill)
     (next : ℕ) (free : List ℕ) (d : Demand) (place x : ℕ) → AreFilled end turns takers fills
     → AreSplit takers fills next free → HasCome takers fills next d.at
     → AreDueFrom turns takers fills d.at → AreLater takers next d.at
     → IsUnmet end turns takers fills (length fills) d → length fills < length turns
     → (turn_at turns (length fills)).from ≤ d.at
-    → IsChosen takers free (turn_at turns (length fills)).item place
+    → IsSuited takers free d.at (turn_at turns (length fills)).item place
     → x ≡ get_or free place 0
     → (let f : Fill = record { taker = x; demand = d } in
     AreFilled end turns takers (fills ++ f ∷ []))
-filled_next end turns takers fills next free d place x h s come due later unmet lt from chosen e =
+filled_next end turns takers fills next free d place x h s come due later unmet lt from suited e =
     let k : ℕ = length fills in
-    let v : ℕ = (turn_at turns k).item in
-    let inside : place < length free = chosen_within takers free v place chosen in
+    let o : Option ℕ = (turn_at turns k).item in
+    let inside : place < length free = suited_within takers free d.at o place suited in
     let j : ℕ = get_or free place 0 in
     let f : Fill = record { taker = j; demand = d } in
     let below : j < next = free_below takers fills next free s place inside in
@@ -453,24 +513,25 @@ filled_next end turns takers fills next free d place x h s come due later unmet 
       taker = within;
       unmet = unmet;
       may = record {
-        item = λ w is. chosen_item takers free v place w chosen is;
+        item = λ v w is has. suited_item takers free d.at o place v w suited is has;
         turn_from = from;
         turn_by = due.turns_due k (omega arith) lt;
         from = come.came j below;
         by = due.takers_due j within none;
       };
       free = none;
-      preferred = λ i there free_i item early.
+      preferred = λ v i has there free_i item early.
           elim (cases_lt i next) [
             | inl before ↦
                 let r = found_free takers fills next free s i before free_i in
                 subst (λ n. (taker_at takers j).by ≤ (taker_at takers n).by) r.2
-                (chosen_least takers free v place r.0 chosen r.1
+                (suited_least takers free d.at o place v r.0 suited has r.1
                 (ap (λ n. (taker_at takers n).item) r.2 ∙ item))
             | inr past ↦ absurd (omega (arith, later i past there))
           ];
-      none_left = λ is. none_among takers fills next free d.at (Some v) s later
-          (chosen_last takers free v place chosen is);
+      none_left = λ v has any. none_among takers fills next free d.at (Some v) s later
+          (suited_last takers free d.at o place v suited has any);
+      due = λ none_of_it. suited_due takers free d.at o place suited none_of_it;
     } in
     subst (λ n. (let g : Fill = record { taker = n; demand = d } in
     AreFilled end turns takers (fills ++ g ∷ []))) (sym e)

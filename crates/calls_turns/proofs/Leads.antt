@@ -1,6 +1,8 @@
 -- Steps that are found from the last one back: they follow from those that are still to come.
-use Rattle.std.proofs.Common.{◌≡◌, ℕ, zero, suc, ◌-◌, ◌<◌, ◌≤◌, inl, inr, Bool, true, false, cond, max}
-use Rattle.std.proofs.Common.{List, [], ◌∷◌, ◌++◌, length, get_or, set, refl, ap, sym, ◌∙◌, arith, subst}
+use Rattle.std.proofs.Common.{◌≡◌, ℕ, zero, suc, ◌-◌, ◌<◌, ◌≤◌, inl, inr, Bool, true, false}
+use Rattle.std.proofs.Common.{cond, max}
+use Rattle.std.proofs.Common.{List, [], ◌∷◌, ◌++◌, length, get_or, set, refl, ap, sym, ◌∙◌, arith}
+use Rattle.std.proofs.Common.{subst}
 use Rattle.std.proofs.Common.{Option, Some, None}
 use Rattle.std.specs.Prelude.{IfSome, nat_le, slice_get}
 use Rattle.std.proofs.lemmas.Bool.{cond-true, le-leb, cases_eq, cases_lt, both_ways}
@@ -18,7 +20,8 @@ use Rattle.calls_turns.specs.declared.chaining.Link.{Link}
 use Rattle.calls_turns.specs.Steps.{reached, IsReason, IsStep, AreSteps, last_at, last_count}
 use Rattle.calls_turns.specs.Sweeps.{fill_at}
 use Rattle.calls_turns.specs.Chains.{Reaches, IsLink, is_marked, marked, last_step, IsAdded}
-use Rattle.calls_turns.specs.Chains.{HasOneMore, IsLead}
+use Rattle.calls_turns.specs.Chains.{HasOneMore, due_step, last_due, Leads, AreReaching, EndsAs}
+use Rattle.calls_turns.specs.Chains.{IsLead}
 
 -- WHAT STEPS REACH
 
@@ -115,22 +118,15 @@ head_stays ss new s add some = elim add [
   | inr same ↦ (ap last_at same.2, ap last_count same.2)
 ]
 
--- THE LAST STEP, IF IT IS DUE: IT FOLLOWS FROM NO OTHER
-
-abbrev pub due_step : Reason → Step → List Step
-due_step Due s = s ∷ []
-due_step (Takers v after calls) s = []
-
-abbrev pub last_due : Option Step → List Step
-last_due None = []
-last_due (Some s) = due_step s.reason s
+-- THE LAST STEP, IF IT IS DUE
 
 due_first : (s : Step) (rest : List Step) (p : ℕ)
     → reached (due_step s.reason s ++ rest) p ≤ reached (s ∷ rest) p
-due_first s rest p = elim s.reason as (λ r. reached (due_step r s ++ rest) p ≤ reached (s ∷ rest) p) [
-  | Due ↦ omega arith
-  | Takers v after calls ↦ reached_right (s ∷ []) rest p
-]
+due_first s rest p =
+    elim s.reason as (λ r. reached (due_step r s ++ rest) p ≤ reached (s ∷ rest) p) [
+      | Due ↦ omega arith
+      | Takers v after calls ↦ reached_right (s ∷ []) rest p
+    ]
 
 due_reason : (turns : List Turn) (takers : List Taker) (s : Step) (rest : List Step) (p n : ℕ)
     (r : Reason) → IsReason turns takers (due_step r s ++ rest) p n r
@@ -153,26 +149,19 @@ still_marked marks (Some j) k e = elim (cases_eq k j) [
   | inr other ↦ get_or-set_other marks j k true false other ∙ e
 ]
 
-as_long : (marks : List Bool) (turn : Option ℕ) → length (marked marks turn) ≡ length marks
+pub as_long : (marks : List Bool) (turn : Option ℕ) → length (marked marks turn) ≡ length marks
 as_long marks None = refl
 as_long marks (Some j) = length-set marks j true
 
 -- WHAT FOLLOWS
 
--- with earlier steps that reach the marked turns before turn k, these are steps
-abbrev pub Leads : ℕ → List Turn → List Taker → List Fill → ℕ → List Bool → List Step → Type 0
-Leads end turns takers fills k needed ss = (rest : List Step) → AreSteps end turns takers rest
-    → ((b : ℕ) → b < k → is_marked needed b ≡ true
-    → Reaches fills (last_due (last_step ss) ++ rest) b) → AreSteps end turns takers (ss ++ rest)
-
--- so far, from turn k on
-pub record IsLeading (end : ℕ) (turns : List Turn) (takers : List Taker) (fills : List Fill) (p : ℕ)
-    (needed : List Bool) (k : ℕ) (lead : Lead) : Type 0 where
-  pub sized : length lead.needed.items ≡ length fills
+-- so far, from turn k on, since there were the steps to begin with
+pub record IsLeading (end : ℕ) (turns : List Turn) (takers : List Taker) (fills : List Fill)
+    (needed : List Bool) (begun : List Step) (k : ℕ) (lead : Lead) : Type 0 where
+  pub sized : length lead.needed.items ≡ length needed
   pub kept : (b : ℕ) → is_marked needed b ≡ true → is_marked lead.needed.items b ≡ true
   pub leads : Leads end turns takers fills k lead.needed.items lead.steps.items
-  pub at : last_at lead.steps.items ≡ p
-  pub count : length fills < last_count lead.steps.items
+  pub last : EndsAs begun lead.steps.items
   pub reach : (b : ℕ) → k ≤ b → is_marked needed b ≡ true → Reaches fills lead.steps.items b
 
 module _ (end : ℕ) (turns : List Turn) (takers : List Taker) (fills : List Fill) where
@@ -252,41 +241,40 @@ module _ (end : ℕ) (turns : List Turn) (takers : List Taker) (fills : List Fil
             on)))
       ]
 
-  pub first_lead : (p : ℕ) (old new : Lead) → old.steps.items ≡ []
-      → length old.needed.items ≡ length fills
-      → HasOneMore end turns takers fills (length fills) p old new
-      → IsLeading end turns takers fills p old.needed.items (length fills) new
-  first_lead p old new none sized more =
-      let k : ℕ = length fills in
+  pub first_leads : (p k : ℕ) (old new : Lead) → old.steps.items ≡ []
+      → length old.needed.items ≡ k → HasOneMore end turns takers fills k p old new
+      → Leads end turns takers fills (length new.needed.items) new.needed.items new.steps.items
+  first_leads p k old new none e more =
       let marks : List Bool = old.needed.items in
-      let link : Link = more.link in
-      let is : IsLink end turns takers fills k p link = more.leads in
-      let past : (b : ℕ) → k ≤ b → is_marked marks b ≡ true → ⊥ = λ b le on.
-      both_ways (is_marked marks b) (get_or_past marks b false (omega (arith, sized))) on in
-      let only : new.steps.items ≡ link.step ∷ [] =
-      first_added old.steps.items new.steps.items link.step none more.steps in
-      record {
-        sized = ap length more.needed ∙ as_long marks link.needs ∙ sized;
-        kept = λ b on. subst (λ l. is_marked l b ≡ true) (sym more.needed)
-            (still_marked marks link.needs b on);
-        leads = more_leads k p marks old.steps.items new.needed.items new.steps.items link is
-            (omega (arith, sized)) (λ on. absurd (past k (omega arith) on)) more.needed more.steps
-            (λ rest are all. subst (λ l. AreSteps end turns takers (l ++ rest)) (sym none) are);
-        at = ap last_at only ∙ is.at;
-        count = subst (λ l. k < last_count l) (sym only) is.count;
-        reach = λ b le on. absurd (past b le on);
-      }
+      let same : k ≡ length new.needed.items =
+      sym (ap length more.needed ∙ as_long marks more.link.needs ∙ e) in
+      subst (λ m. Leads end turns takers fills m new.needed.items new.steps.items) same
+      (more_leads k p marks old.steps.items new.needed.items new.steps.items more.link more.leads
+      (omega arith) (λ on. absurd (both_ways (is_marked marks k)
+      (get_or_past marks k false (omega arith)) on)) more.needed more.steps
+      (λ rest are all. subst (λ l. AreSteps end turns takers (l ++ rest)) (sym none) are))
 
-  pub more_lead : (p q k n : ℕ) (marks : List Bool) (old new : Lead) → n ≡ suc k
-      → k < length fills → q ≡ (fill_at fills k).demand.at
+  pub begun_lead : (lead : Lead)
+      → Leads end turns takers fills (length lead.needed.items) lead.needed.items lead.steps.items
+      → IsLeading end turns takers fills lead.needed.items lead.steps.items
+      (length lead.needed.items) lead
+  begun_lead lead leads = record {
+    sized = refl;
+    kept = λ b on. on;
+    leads = leads;
+    last = λ some. (refl, refl);
+    reach = λ b le on. absurd (both_ways (is_marked lead.needed.items b)
+        (get_or_past lead.needed.items b false le) on);
+  }
+
+  pub more_lead : (q k n : ℕ) (marks : List Bool) (begun : List Step) (old new : Lead)
+      → n ≡ suc k → k < length marks → q ≡ (fill_at fills k).demand.at
       → HasOneMore end turns takers fills k q old new
-      → IsLeading end turns takers fills p marks n old
-      → IsLeading end turns takers fills p marks k new
-  more_lead p q k n marks old new next lt at more h =
+      → IsLeading end turns takers fills marks begun n old
+      → IsLeading end turns takers fills marks begun k new
+  more_lead q k n marks begun old new next lt at more h =
       let link : Link = more.link in
       let is : IsLink end turns takers fills k q link = more.leads in
-      let same = head_stays old.steps.items new.steps.items link.step more.steps
-      (omega (arith, h.count)) in
       record {
         sized = ap length more.needed ∙ as_long old.needed.items link.needs ∙ h.sized;
         kept = λ b on. subst (λ l. is_marked l b ≡ true) (sym more.needed)
@@ -295,8 +283,11 @@ module _ (end : ℕ) (turns : List Turn) (takers : List Taker) (fills : List Fil
             link is (omega (arith, h.sized)) (λ on. at) more.needed more.steps
             (subst (λ m. Leads end turns takers fills m old.needed.items old.steps.items) next
             h.leads);
-        at = same.0 ∙ h.at;
-        count = omega (arith, same.1, h.count);
+        last = λ some.
+            let was = h.last some in
+            let same = head_stays old.steps.items new.steps.items link.step more.steps
+            (omega (arith, was.1)) in
+            (same.0 ∙ was.0, same.1 ∙ was.1);
         reach = λ b le on. elim (cases_lt k b) [
           | inl less ↦ omega (
             arith,
@@ -313,13 +304,58 @@ module _ (end : ℕ) (turns : List Turn) (takers : List Taker) (fills : List Fil
         ];
       }
 
-  pub whole_lead : (p k : ℕ) (marks : List Bool) (lead : Lead) → k ≡ 0
-      → IsLeading end turns takers fills p marks k lead
-      → IsLead end turns takers fills p marks lead.steps.items
-  whole_lead p k marks lead none h = record {
+  -- a turn that is not marked needs no step
+  pub same_lead : (k n : ℕ) (marks : List Bool) (begun : List Step) (lead : Lead) → n ≡ suc k
+      → is_marked lead.needed.items k ≡ false
+      → IsLeading end turns takers fills marks begun n lead
+      → IsLeading end turns takers fills marks begun k lead
+  same_lead k n marks begun lead next off h = record {
+    sized = h.sized;
+    kept = h.kept;
+    leads = λ rest are all. h.leads rest are (λ b lt on. elim (cases_lt b k) [
+      | inl less ↦ all b less on
+      | inr le ↦
+          let here : b ≡ k = omega arith in
+          absurd (both_ways (is_marked lead.needed.items k) off
+          (subst (λ i. is_marked lead.needed.items i ≡ true) here on))
+    ]);
+    last = h.last;
+    reach = λ b le on. elim (cases_lt k b) [
+      | inl less ↦ h.reach b (omega (arith, next)) on
+      | inr back ↦
+          let here : b ≡ k = omega arith in
+          absurd (both_ways (is_marked lead.needed.items k) off
+          (subst (λ i. is_marked lead.needed.items i ≡ true) here (h.kept b on)))
+    ];
+  }
+
+  pub whole_lead : (k : ℕ) (marks : List Bool) (begun : List Step) (lead : Lead) → k ≡ 0
+      → IsLeading end turns takers fills marks begun k lead
+      → AreReaching end turns takers fills marks lead.steps.items
+  whole_lead k marks begun lead none h = record {
     steps = subst (λ l. AreSteps end turns takers l) (append-nil lead.steps.items)
         (h.leads [] tt (λ b lt. absurd (omega (arith, none))));
-    at = h.at;
-    count = h.count;
     reach = λ b. h.reach b (omega (arith, none));
   }
+
+  -- the first step stays the last one
+  pub led : (p : ℕ) (old new : Lead) (ss : List Step) → old.steps.items ≡ []
+      → HasOneMore end turns takers fills (length fills) p old new
+      → AreReaching end turns takers fills new.needed.items ss → EndsAs new.steps.items ss
+      → IsLead end turns takers fills p old.needed.items ss
+  led p old new ss none more are last =
+      let link : Link = more.link in
+      let only : new.steps.items ≡ link.step ∷ [] =
+      first_added old.steps.items new.steps.items link.step none more.steps in
+      let here : length fills < last_count new.steps.items =
+      subst (λ l. length fills < last_count l) (sym only) more.leads.count in
+      let same = last (omega (arith, here)) in
+      record {
+        reaching = record {
+          steps = are.steps;
+          reach = λ b on. are.reach b (subst (λ l. is_marked l b ≡ true) (sym more.needed)
+              (still_marked old.needed.items link.needs b on));
+        };
+        at = same.0 ∙ ap last_at only ∙ more.leads.at;
+        count = omega (arith, same.1, here);
+      }

@@ -1,8 +1,10 @@
 pub mod Counts
 pub mod Tallies
+pub mod Listed
 pub mod Lasting
 pub mod Stretches
 pub mod Leads
 pub mod Shortfalls
+pub mod Loads
 pub mod Filling
 pub mod Assignments

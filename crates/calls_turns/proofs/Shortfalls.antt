@@ -1,80 +1,32 @@
 -- What is missing when a turn can't be taken: more than there are takers of any item.
 use Rattle.std.proofs.Common.{◌≡◌, ◌≢◌, ℕ, suc, ◌+◌, ◌-◌, ◌<◌, ◌≤◌, inl, inr, Bool, true, false}
-use Rattle.std.proofs.Common.{◌&&◌, not, List, [], ◌∷◌, ◌++◌, length, refl, ap, sym, ◌∙◌, arith, subst}
-use Rattle.std.proofs.Common.{◌⊎◌, eqb, Some, None}
+use Rattle.std.proofs.Common.{◌&&◌, not, List, [], ◌∷◌, ◌++◌, length, refl, ap, sym, ◌∙◌, arith}
+use Rattle.std.proofs.Common.{subst}
+use Rattle.std.proofs.Common.{Some, None}
 use Rattle.std.specs.Prelude.{nat_le}
-use Rattle.std.proofs.lemmas.Bool.{cases_lt, eqb-true, eq-eqb, leb-true, and_parts, and_from}
-use Rattle.std.proofs.lemmas.Bool.{or_cases, or_left, or_right, or_parts, both_ways, not-true}
-use Rattle.std.proofs.lemmas.Bool.{false_from_ne_true}
-use Rattle.std.proofs.lemmas.List.Folds.{list_any-append}
+use Rattle.std.proofs.lemmas.Bool.{cases_lt, leb-true, and_parts, and_from, and_cases, both_ways}
+use Rattle.std.proofs.lemmas.Bool.{not-true, not-false, false_from_ne_true}
 use Rattle.std.proofs.lemmas.List.{get_or-set_same, length-set}
 use Rattle.calls_core.specs.Lists.{Each, EachPair}
-use Rattle.calls_core.proofs.Lists.{each_weaker, each_append, each_pair_append}
-use Rattle.calls_core.proofs.Counting.{one, one_yes}
+use Rattle.calls_core.proofs.Lists.{each_weaker, each_append}
 use Rattle.calls_turns.specs.declared.turn.Turn.{Turn}
 use Rattle.calls_turns.specs.declared.turn.Taker.{Taker}
 use Rattle.calls_turns.specs.declared.turn.Step.{Step}
 use Rattle.calls_turns.specs.declared.turn.Shortage.{Shortage}
 use Rattle.calls_turns.specs.declared.demand.Fill.{Fill}
 use Rattle.calls_turns.specs.declared.clash.Lack.{Lack}
-use Rattle.calls_turns.specs.Steps.{has_none, is_of, come_of, others_by, turns_of, reached}
-use Rattle.calls_turns.specs.Steps.{IsShortage, missing}
+use Rattle.calls_turns.specs.Steps.{has_item, has_none, is_of, come_of, others_by, turns_of, known}
+use Rattle.calls_turns.specs.Steps.{reached, IsShortage, missing}
 use Rattle.calls_turns.specs.Sweeps.{taker_at, turn_at, fill_at, filler, NoneLeft, AreFilled}
 use Rattle.calls_turns.specs.Sweeps.{IsLacking}
 use Rattle.calls_turns.specs.Chains.{is_marked, marked, IsLead}
 use Rattle.calls_turns.specs.Shortages.{is_listed, IsCounted, IsTakenAt, IsFound, IsLack}
+use Rattle.calls_turns.proofs.Counts.{known_item}
 use Rattle.calls_turns.proofs.Tallies.{passing, passing_le, passing_under, passing_only, spent}
 use Rattle.calls_turns.proofs.Tallies.{is_other, of_item, of_any, turns_split, one_most}
+use Rattle.calls_turns.proofs.Listed.{among_left, among_last, among_only, among_under, apart_more}
 use Rattle.calls_turns.proofs.Stretches.{same_turn_more}
 use Rattle.calls_turns.proofs.Leads.{last_reached, still_marked}
-
--- LISTS OF ITEMS
-
-listed_left : (list more : List Shortage) (u : ℕ) → is_listed list u ≡ true
-    → is_listed (list ++ more) u ≡ true
-listed_left list more u e = list_any-append (λ (s : Shortage). eqb s.item u) list more
-    ∙ or_left (is_listed list u) (is_listed more u) e
-
-listed_last : (list : List Shortage) (s : Shortage) (u : ℕ) → s.item ≡ u
-    → is_listed (list ++ s ∷ []) u ≡ true
-listed_last list s u e = list_any-append (λ (t : Shortage). eqb t.item u) list (s ∷ [])
-    ∙ or_right (is_listed list u) (is_listed (s ∷ []) u)
-    (or_left (eqb s.item u) false (eq-eqb s.item u e))
-
-one_or : (a b c : Bool) → (c ≡ true → (a ≡ true) ⊎ (b ≡ true)) → one c ≤ one a + one b
-one_or a b false h = omega arith
-one_or a b true h = elim (h refl) [
-  | inl e ↦ omega (arith, one_yes a e)
-  | inr e ↦ omega (arith, one_yes b e)
-]
-
-listed_only : (s : Shortage) (u : ℕ) → is_listed (s ∷ []) u ≡ true → eqb u s.item ≡ true
-listed_only s u e = elim (or_cases (eqb s.item u) false e) [
-  | inl is ↦ eq-eqb u s.item (sym (eqb-true s.item u is))
-  | inr never ↦ absurd (cc)
-]
-
--- an item of a list that is longer by one
-listed_under : (b : Bool) (list : List Shortage) (s : Shortage) (u : ℕ)
-    → one (b && is_listed (list ++ s ∷ []) u)
-    ≤ one (b && is_listed list u) + one (b && eqb u s.item)
-listed_under false list s u = omega arith
-listed_under true list s u =
-    one_or (is_listed list u) (eqb u s.item) (is_listed (list ++ s ∷ []) u) (λ e.
-    elim (or_cases (is_listed list u) (is_listed (s ∷ []) u)
-    (sym (list_any-append (λ (t : Shortage). eqb t.item u) list (s ∷ [])) ∙ e)) [
-      | inl old ↦ inl old
-      | inr new ↦ inr (listed_only s u new)
-    ])
-
-each_apart : (list : List Shortage) (s : Shortage) → is_listed list s.item ≡ false
-    → Each (λ (t : Shortage). Each (λ (r : Shortage). t.item ≢ r.item) (s ∷ [])) list
-each_apart [] s none = tt
-each_apart (t ∷ list) s none =
-    let parts = or_parts (eqb t.item s.item) (is_listed list s.item) none in (
-      ((λ e. both_ways (eqb t.item s.item) parts.0 (eq-eqb t.item s.item e)), tt),
-      each_apart list s parts.1,
-    )
 
 missing_more : (list : List Shortage) (s : Shortage)
     → missing (list ++ s ∷ []) ≡ missing list + (s.turns - s.takers)
@@ -118,7 +70,7 @@ pub found_shortage : (end : ℕ) (turns : List Turn) (takers : List Taker) (fill
     → IsShortage turns takers ss s
 found_shortage end turns takers fills p needed ss s lead h = record {
   taken = elim h.taken [
-    | inl past ↦ subst (λ q. s.turn < reached ss q) (sym past.1) (lead.reach s.turn past.0)
+    | inl past ↦ subst (λ q. s.turn < reached ss q) (sym past.1) (lead.reaching.reach s.turn past.0)
     | inr last ↦ subst (λ q. s.turn < reached ss q) (sym last.1)
         (last_reached ss s.turn p (omega (arith, last.0, lead.count)) lead.at)
   ];
@@ -139,6 +91,9 @@ pub record AreMissing (turns : List Turn) (takers : List Taker) (fills : List Fi
   pub enough : passing (is_other (filler takers fills) turns (is_listed list)) (length fills)
       < missing list
 
+abbrev item : Shortage → ℕ
+item s = s.item
+
 module _ (end : ℕ) (turns : List Turn) (takers : List Taker) (fills : List Fill)
     (h : AreFilled end turns takers fills) where
   abbrev who : ℕ → Taker
@@ -146,7 +101,7 @@ module _ (end : ℕ) (turns : List Turn) (takers : List Taker) (fills : List Fil
 
   -- whether a taker of any item takes turn i, which is of item v
   abbrev is_for : ℕ → ℕ → Bool
-  is_for v = is_other who turns (λ u. eqb u v)
+  is_for v = is_other who turns (λ o. has_item o v)
 
   own_come : (k p v : ℕ) → NoneLeft takers fills k p (Some v)
       → come_of takers v p ≤ passing (λ i. is_of v (who i)) k
@@ -179,37 +134,39 @@ module _ (end : ℕ) (turns : List Turn) (takers : List Taker) (fills : List Fil
       )
 
   -- up to a turn of an item for which nobody of the item is left
-  amount : (k p v : ℕ) → k ≤ length fills → k < length turns → (turn_at turns k).item ≡ v
-      → NoneLeft takers fills k p (Some v)
+  amount : (k p v : ℕ) → k ≤ length fills → k ≤ known turns → k < length turns
+      → (turn_at turns k).item ≡ Some v → NoneLeft takers fills k p (Some v)
       → come_of takers v p + passing (is_for v) k < turns_of turns v (k + 1)
-  amount k p v to lt e none = omega (
+  amount k p v to early lt e none = omega (
     arith,
     own_come k p v none,
     turns_split who turns v k (omega arith)
-        (λ i w less is. (h.each i (omega arith)).may.item w is),
+        (λ i from less. known_item turns i (omega arith))
+        (λ i w u less is has. (h.each i (omega arith)).may.item w u is has),
     same_turn_more turns v k lt e,
   )
 
   -- the same of a shortage
-  amount_of : (k p : ℕ) (s : Shortage) → k ≤ length fills → k < length turns
-      → NoneLeft takers fills k p (Some (turn_at turns k).item) → IsCounted turns takers p k s
-      → s.takers + passing (is_for s.item) k < s.turns
-  amount_of k p s to lt none c = omega (
+  amount_of : (k p v : ℕ) (s : Shortage) → k ≤ length fills → k ≤ known turns
+      → k < length turns → (turn_at turns k).item ≡ Some v → NoneLeft takers fills k p (Some v)
+      → IsCounted turns takers p k s → s.takers + passing (is_for s.item) k < s.turns
+  amount_of k p v s to early lt e none c = omega (
     arith,
     c.come,
     c.of_item,
-    amount k p s.item to lt (sym c.item)
-        (subst (λ v. NoneLeft takers fills k p (Some v)) (sym c.item) none),
+    amount k p s.item to early lt c.item
+        (subst (λ o. NoneLeft takers fills k p o) (sym e ∙ c.item) none),
   )
 
   pub first_missing : (p : ℕ) (needed : List Bool) (s : Shortage)
-      → IsLacking turns takers fills p (length fills) → length needed ≡ length fills
+      → length fills ≤ known turns → IsLacking turns takers fills p (length fills)
+      → length needed ≡ length fills
       → IsCounted turns takers p (length fills) s
       → AreMissing turns takers fills p (length fills) needed (s ∷ [])
-  first_missing p needed s lack sized c =
+  first_missing p needed s early lack sized c =
       let k : ℕ = length fills in
       let much : s.takers + passing (is_for s.item) k < s.turns =
-      amount_of k p s (omega arith) lack.there lack.of_item c in
+      amount_of k p lack.item s (omega arith) early lack.there lack.is lack.of_item c in
       record {
         sized = sized;
         each = (
@@ -225,39 +182,65 @@ module _ (end : ℕ) (turns : List Turn) (takers : List Taker) (fills : List Fil
           passing_le (is_other who turns (is_listed (s ∷ []))) (is_for s.item) k
               (λ i lt e. (let both = and_parts (has_none (who i).item)
               (is_listed (s ∷ []) (turn_at turns i).item) e in
-              and_from (has_none (who i).item) (eqb (turn_at turns i).item s.item) both.0
-              (listed_only s (turn_at turns i).item both.1))),
+              and_from (has_none (who i).item) (has_item (turn_at turns i).item s.item) both.0
+              (among_only item s (turn_at turns i).item both.1))),
         );
       }
 
+  -- nothing more for turn k
+  pub same_missing : (p k n : ℕ) (needed : List Bool) (list : List Shortage) → n ≡ k + 1
+      → (has_none (who k).item && not (is_listed list (turn_at turns k).item)) ≡ false
+      → AreMissing turns takers fills p n needed list
+      → AreMissing turns takers fills p k needed list
+  same_missing p k n needed list e stale m = record {
+    sized = m.sized;
+    each = m.each;
+    apart = m.apart;
+    found = λ i from lt any. elim (cases_lt k i) [
+      | inl past ↦ m.found i (omega arith) lt any
+      | inr less ↦
+          let same : k ≡ i = omega arith in
+          let here : has_none (who k).item ≡ true =
+          subst (λ j. has_none (who j).item ≡ true) (sym same) any in
+          subst (λ j. is_listed list (turn_at turns j).item ≡ true) same
+          (elim (and_cases (has_none (who k).item) (not (is_listed list (turn_at turns k).item))
+          stale) [
+            | inl own ↦ absurd (both_ways (has_none (who k).item) own here)
+            | inr listed ↦ not-false (is_listed list (turn_at turns k).item) listed
+          ])
+    ];
+    enough = m.enough;
+  }
+
   -- after turn k, no taker of any item takes a turn of an item that is not listed
   none_after : (p k n v : ℕ) (needed : List Bool) (list : List Shortage) → n ≡ k + 1
-      → is_listed list v ≡ false → AreMissing turns takers fills p n needed list
+      → is_listed list (Some v) ≡ false → AreMissing turns takers fills p n needed list
       → (i : ℕ) → suc k ≤ i → i < length fills → is_for v i ≡ false
   none_after p k n v needed list e none m i from lt =
       false_from_ne_true (is_for v i) (λ yes_i.
-      (let both = and_parts (has_none (who i).item) (eqb (turn_at turns i).item v) yes_i in
-      both_ways (is_listed list v) none
-      (subst (λ u. is_listed list u ≡ true) (eqb-true (turn_at turns i).item v both.1)
+      (let both = and_parts (has_none (who i).item) (has_item (turn_at turns i).item v) yes_i in
+      both_ways (is_listed list (Some v)) none
+      (subst (λ o. is_listed list o ≡ true) (of_item (turn_at turns i).item v both.1)
       (m.found i (omega arith) lt both.0))))
 
   -- an item more, of turn k
   pub more_missing : (p k n : ℕ) (needed : List Bool) (list : List Shortage) (s : Shortage)
-      → n ≡ k + 1 → k < length fills → (fill_at fills k).demand.at ≤ p
+      → n ≡ k + 1 → k < length fills → length fills ≤ known turns
+      → (fill_at fills k).demand.at ≤ p
       → (has_none (who k).item && not (is_listed list (turn_at turns k).item)) ≡ true
       → IsCounted turns takers (fill_at fills k).demand.at k s
       → AreMissing turns takers fills p n needed list
       → AreMissing turns takers fills p k (marked needed (Some k)) (list ++ s ∷ [])
-  more_missing p k n needed list s e lt before fresh c m =
+  more_missing p k n needed list s e lt early before fresh c m =
       let q : ℕ = (fill_at fills k).demand.at in
       let both = and_parts (has_none (who k).item) (not (is_listed list (turn_at turns k).item))
       fresh in
-      let left : NoneLeft takers fills k q (Some (turn_at turns k).item) =
-      (h.each k lt).none_left (of_any (who k).item both.0) in
+      let left : NoneLeft takers fills k q (Some s.item) =
+      (h.each k lt).none_left s.item c.item (of_any (who k).item both.0) in
       let much : s.takers + passing (is_for s.item) k < s.turns =
-      amount_of k q s (omega arith) (h.each k lt).turn left c in
-      let new : is_listed list s.item ≡ false =
-      subst (λ v. is_listed list v ≡ false) (sym c.item)
+      amount_of k q s.item s (omega arith) (omega arith) (h.each k lt).turn c.item left c in
+      let new : is_listed list (Some s.item) ≡ false =
+      subst (λ o. is_listed list o ≡ false) c.item
       (not-true (is_listed list (turn_at turns k).item) both.1) in
       let marks : List Bool = marked needed (Some k) in
       let here : is_marked marks k ≡ true =
@@ -271,15 +254,14 @@ module _ (end : ℕ) (turns : List Turn) (takers : List Taker) (fills : List Fil
                   (omega (arith, much)),
               tt,
             );
-        apart = each_pair_append (λ (t r : Shortage). t.item ≢ r.item) list (s ∷ []) m.apart
-            (tt, tt) (each_apart list s new);
+        apart = apart_more item list s new m.apart;
         found = λ i from less other. elim (cases_lt k i) [
-          | inl past ↦ listed_left list (s ∷ []) (turn_at turns i).item
+          | inl past ↦ among_left item list s (turn_at turns i).item
               (m.found i (omega arith) less other)
           | inr not_past ↦
               let same : k ≡ i = omega arith in
-              listed_last list s (turn_at turns i).item
-              (c.item ∙ ap (λ j. (turn_at turns j).item) same)
+              among_last item list s (turn_at turns i).item
+              (ap (λ j. (turn_at turns j).item) (sym same) ∙ c.item)
         ];
         enough = omega (
           arith,
@@ -291,7 +273,7 @@ module _ (end : ℕ) (turns : List Turn) (takers : List Taker) (fills : List Fil
               (none_after p k n s.item needed list e new m),
           passing_under (is_other who turns (is_listed list)) (is_for s.item)
               (is_other who turns (is_listed (list ++ s ∷ []))) (length fills)
-              (λ i less. listed_under (has_none (who i).item) list s (turn_at turns i).item),
+              (λ i less. among_under item (has_none (who i).item) list s (turn_at turns i).item),
         );
       }
 

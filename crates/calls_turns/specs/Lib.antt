@@ -6,3 +6,4 @@ pub mod Sweeps
 pub mod Chains
 pub mod Swept
 pub mod Shortages
+pub mod Shares

@@ -1,5 +1,6 @@
 -- What is missing, found from the last turn that is taken back to the first.
-use Rattle.std.specs.Prelude.{◌≡◌, ◌≢◌, ℕ, ◌+◌, ◌<◌, ◌≤◌, ◌⊎◌, ◌==◌, Bool, true, List, length}
+use Rattle.std.specs.Prelude.{◌≡◌, ◌≢◌, ℕ, ◌+◌, ◌<◌, ◌≤◌, ◌⊎◌, Bool, true, List, length, Option}
+use Rattle.std.specs.Prelude.{Some}
 use Rattle.std.specs.List.{list_any}
 use Rattle.calls_core.specs.Lists.{Each, EachPair}
 use Rattle.calls_turns.specs.declared.turn.Turn.{Turn}
@@ -7,20 +8,23 @@ use Rattle.calls_turns.specs.declared.turn.Taker.{Taker}
 use Rattle.calls_turns.specs.declared.turn.Shortage.{Shortage}
 use Rattle.calls_turns.specs.declared.demand.Fill.{Fill}
 use Rattle.calls_turns.specs.declared.clash.Lack.{Lack}
-use Rattle.calls_turns.specs.Steps.{turns_of, come_of, others_by, missing}
+use Rattle.calls_turns.specs.Steps.{has_item, turns_of, come_of, others_by, missing}
 use Rattle.calls_turns.specs.Sweeps.{turn_at, fill_at}
 use Rattle.calls_turns.specs.Chains.{is_marked}
 
--- whether turns of an item are among those that are missing
-abbrev pub is_listed : List Shortage → ℕ → Bool
-is_listed list v = list_any (λ (s : Shortage). s.item == v) list
+-- whether a turn or a taker is of an item of a list
+abbrev pub is_among : {X : Type 0} → (X → ℕ) → List X → Option ℕ → Bool
+is_among item list o = list_any (λ x. has_item o (item x)) list
+
+abbrev pub is_listed : List Shortage → Option ℕ → Bool
+is_listed list o = is_among (λ (s : Shortage). s.item) list o
 
 -- these are the turns of the item of turn k, up to it, and who may take them by position p
 pub record IsCounted (turns : List Turn) (takers : List Taker) (p k : ℕ) (s : Shortage)
     : Type 0 where
   pub at : s.at ≡ p
   pub turn : s.turn ≡ k
-  pub item : s.item ≡ (turn_at turns k).item
+  pub item : (turn_at turns k).item ≡ Some s.item
   pub of_item : s.turns ≡ turns_of turns s.item (k + 1)
   pub come : s.takers ≡ come_of takers s.item p
 
@@ -39,8 +43,8 @@ pub record IsFound (turns : List Turn) (takers : List Taker) (fills : List Fill)
   pub few : s.takers ≤ s.turns
 
 -- what is missing: more than there are takers of any item
-pub record IsLack (turns : List Turn) (takers : List Taker) (fills : List Fill) (p : ℕ) (lack : Lack)
-    : Type 0 where
+pub record IsLack (turns : List Turn) (takers : List Taker) (fills : List Fill) (p : ℕ)
+    (lack : Lack) : Type 0 where
   pub sized : length lack.needed.items ≡ length fills
   pub each : Each (IsFound turns takers fills p lack.needed.items) lack.shortages.items
   pub apart : EachPair (λ (s t : Shortage). s.item ≢ t.item) lack.shortages.items

@@ -10,10 +10,11 @@ use Rattle.calls_turns.specs.declared.turn.Step.{Step}
 use Rattle.calls_turns.specs.declared.turn.Reason.{Reason}
 use Rattle.calls_turns.specs.declared.turn.Reason.TheVariants.{Due, Takers}
 use Rattle.calls_turns.specs.declared.turn.Shortage.{Shortage}
+use Rattle.calls_turns.specs.declared.turn.Share.{Share}
 use Rattle.calls_turns.specs.declared.turn.Clash.{Clash}
-use Rattle.calls_turns.specs.declared.turn.Clash.TheVariants.{Closed, Few}
+use Rattle.calls_turns.specs.declared.turn.Clash.TheVariants.{Closed, Few, Full}
 
--- whether a taker takes turns of item v only, or of any item
+-- whether a turn or a taker is of item v, or of any item
 abbrev pub has_item : Option ℕ → ℕ → Bool
 has_item None v = false
 has_item (Some w) v = w == v
@@ -34,7 +35,12 @@ others_by takers p = count_by (λ (x : Taker). has_none x.item && nat_le x.from 
 
 -- how many turns of the first n are of item v
 abbrev pub turns_of : List Turn → ℕ → ℕ → ℕ
-turns_of ts v n = count_by (λ (t : Turn). t.item == v) (take n ts)
+turns_of ts v n = count_by (λ (t : Turn). has_item t.item v) (take n ts)
+
+-- how many turns come before the first spare one
+abbrev pub known : List Turn → ℕ
+known [] = 0
+known (t ∷ ts) = if has_none t.item then 0 else known ts + 1
 
 -- whether a taker of item v takes its turn after this position, if there is one, and by position p
 abbrev pub is_later : Option ℕ → ℕ → Bool
@@ -59,12 +65,20 @@ pub record IsDue (turns : List Turn) (n p : ℕ) : Type 0 where
   pub at : slice_get turns n ≡ Some turn
   pub by : turn.by ≤ p
 
--- If less than n turns were taken by position p, too few of them were of item v for these takers
+-- of the first n turns, none of which is spare, too few are of item v for these takers, who take
+-- none of those that are taken by the position after which they come
+pub record AreTooFew (turns : List Turn) (ss : List Step) (n v : ℕ) (after : Option ℕ) (calls : ℕ)
+    : Type 0 where
+  pub before : n ≤ known turns
+  pub few : turns_of turns v n < turns_of turns v (reached_after ss after) + calls
+
+-- if only the first n turns were taken by position p, they were too few for these takers of item v;
+-- or these would take their turns after p, and by p
 pub record AreTooMany (turns : List Turn) (takers : List Taker) (ss : List Step) (p n v : ℕ)
     (after : Option ℕ) (calls : ℕ) : Type 0 where
   pub some : 0 < calls
   pub counted : calls ≤ count_by (is_within v after p) takers
-  pub few : turns_of turns v n < turns_of turns v (reached_after ss after) + calls
+  pub few : AreTooFew turns ss n v after calls ⊎ (is_later after p ≡ false)
 
 -- why n + 1 turns are taken by position p, by earlier steps, the last one first
 abbrev pub IsReason : List Turn → List Taker → List Step → ℕ → ℕ → Reason → Type 0
@@ -101,6 +115,10 @@ pub record IsClosed (turns : List Turn) (p k : ℕ) : Type 0 where
   pub at : slice_get turns k ≡ Some turn
   pub later : p < turn.from
 
+-- turn number k is not there, or not taken before a position later than p
+abbrev pub IsNotOpen : List Turn → ℕ → ℕ → Type 0
+IsNotOpen turns p k = (length turns ≤ k) ⊎ IsClosed turns p k
+
 -- turn number s.turn is taken by position s.at, by these steps. Up to it there are so many turns of
 -- an item, and so many takers of the item may take a turn by then
 pub record IsShortage (turns : List Turn) (takers : List Taker) (ss : List Step) (s : Shortage)
@@ -124,14 +142,42 @@ pub record AreShort (turns : List Turn) (takers : List Taker) (ss : List Step)
   pub come : others ≡ others_by takers (last_at ss)
   pub more : others < missing list
 
-abbrev pub IsClash : List Turn → List Taker → List Step → Clash → Type 0
-IsClash turns takers ss (Closed k) =
-    (k < last_count ss) × ((length turns ≤ k) ⊎ IsClosed turns (last_at ss) k)
-IsClash turns takers ss (Few shortages others) = AreShort turns takers ss shortages.items others
+-- so many takers of an item take their turns after a position, or at any time, and by position p.
+-- Of the turns of the item, all but so many are taken by the position after which they come
+pub record IsShare (turns : List Turn) (takers : List Taker) (ss : List Step) (p : ℕ) (s : Share)
+    : Type 0 where
+  pub counted : s.takers ≤ count_by (is_within s.item s.after p) takers
+  pub left : turns_of turns s.item (length turns)
+      ≤ turns_of turns s.item (reached_after ss s.after) + s.turns
+
+-- how many of the takers take spare turns
+abbrev pub excess : List Share → ℕ
+excess [] = 0
+excess (s ∷ list) = (s.takers - s.turns) + excess list
+
+-- by position p so many spare turns are taken that turn number k, which comes after the known ones,
+-- is taken. But it is not there, or not taken before a later position
+pub record IsFull (end : ℕ) (turns : List Turn) (takers : List Taker) (ss : List Step) (k p n : ℕ)
+    (list : List Share) : Type 0 where
+  pub before : p < end
+  pub each : Each (IsShare turns takers ss p) list
+  pub apart : EachPair (λ (s t : Share). s.item ≢ t.item) list
+  pub count : n ≡ known turns
+  pub spare : n ≤ k
+  pub more : k < n + excess list
+  pub closed : IsNotOpen turns p k
+
+abbrev pub IsClash : ℕ → List Turn → List Taker → List Step → Clash → Type 0
+IsClash end turns takers ss (Closed k) =
+    (k < last_count ss) × IsNotOpen turns (last_at ss) k
+IsClash end turns takers ss (Few shortages others) =
+    AreShort turns takers ss shortages.items others
+IsClash end turns takers ss (Full x) =
+    IsFull end turns takers ss x.turn x.at x.known x.shares.items
 
 -- each of the steps, the last one first, follows from those before it, and together they need more
 -- than can be taken
 pub record Refute (end : ℕ) (turns : List Turn) (takers : List Taker) (ss : List Step)
     (clash : Clash) : Type 0 where
   pub steps : AreSteps end turns takers ss
-  pub clashes : IsClash turns takers ss clash
+  pub clashes : IsClash end turns takers ss clash

@@ -14,7 +14,7 @@ abbrev pub nobody : Taker
 nobody = record { call = 0; item = None; from = 0; by = 0 }
 
 abbrev pub no_turn : Turn
-no_turn = record { item = 0; from = 0; by = 0 }
+no_turn = record { item = None; from = 0; by = 0 }
 
 abbrev pub no_fill : Fill
 no_fill = record { taker = 0; demand = record { at = 0; target = targets.Turn 0 } }
@@ -63,9 +63,10 @@ abbrev pub NoneLeft : List Taker → List Fill → ℕ → ℕ → Option ℕ �
 NoneLeft takers fills k p item = (j : ℕ) → j < length takers → IsFree fills k j
     → (taker_at takers j).item ≡ item → (taker_at takers j).from ≤ p → ⊥
 
--- turn k is taken since a demand was not met, by somebody who may take it and takes no other. Of
--- those of its item who had come by then, and took no turn before, nobody is due earlier. If it is
--- taken by a taker of any item, there were none of its item
+-- turn k is taken since a demand was not met, by somebody who may take it and takes no other. If it
+-- is of an item, then of those of its item who had come by then, and took no turn before, nobody is
+-- due earlier; and if it is taken by a taker of any item, there were none of its item. A spare turn
+-- is taken by somebody who is due
 pub record IsFilled (end : ℕ) (turns : List Turn) (takers : List Taker) (fills : List Fill) (k : ℕ)
     : Type 0 where
   pub turn : k < length turns
@@ -73,12 +74,15 @@ pub record IsFilled (end : ℕ) (turns : List Turn) (takers : List Taker) (fills
   pub unmet : IsUnmet end turns takers fills k (fill_at fills k).demand
   pub may : MayTake (fill_at fills k).demand.at (turn_at turns k) (filler takers fills k)
   pub free : IsFree fills k (fill_at fills k).taker
-  pub preferred : (j : ℕ) → j < length takers → IsFree fills k j
-      → (taker_at takers j).item ≡ Some (turn_at turns k).item
+  pub preferred : (v j : ℕ) → (turn_at turns k).item ≡ Some v → j < length takers
+      → IsFree fills k j → (taker_at takers j).item ≡ Some v
       → (taker_at takers j).from ≤ (fill_at fills k).demand.at
       → (filler takers fills k).by ≤ (taker_at takers j).by
-  pub none_left : (filler takers fills k).item ≡ None
-      → NoneLeft takers fills k (fill_at fills k).demand.at (Some (turn_at turns k).item)
+  pub none_left : (v : ℕ) → (turn_at turns k).item ≡ Some v
+      → (filler takers fills k).item ≡ None
+      → NoneLeft takers fills k (fill_at fills k).demand.at (Some v)
+  pub due : (turn_at turns k).item ≡ None
+      → (filler takers fills k).by ≤ (fill_at fills k).demand.at
 
 pub record AreFilled (end : ℕ) (turns : List Turn) (takers : List Taker) (fills : List Fill)
     : Type 0 where
@@ -86,15 +90,25 @@ pub record AreFilled (end : ℕ) (turns : List Turn) (takers : List Taker) (fill
   pub rises : (i k : ℕ) → i ≤ k → k < length fills
       → (fill_at fills i).demand.at ≤ (fill_at fills k).demand.at
 
--- nobody may take turn k by position p when those before it are taken
+-- nobody may take turn k, which is of an item, by position p when those before it are taken
 pub record IsLacking (turns : List Turn) (takers : List Taker) (fills : List Fill) (p k : ℕ)
     : Type 0 where
   pub there : k < length turns
-  pub of_item : NoneLeft takers fills k p (Some (turn_at turns k).item)
+  pub item : ℕ
+  pub is : (turn_at turns k).item ≡ Some item
+  pub of_item : NoneLeft takers fills k p (Some item)
   pub of_any : NoneLeft takers fills k p None
 
+-- turn k is spare, and nobody who is due by position p had come by then and is left
+pub record IsIdle (turns : List Turn) (takers : List Taker) (fills : List Fill) (p k : ℕ)
+    : Type 0 where
+  pub spare : (turn_at turns k).item ≡ None
+  pub none : (j : ℕ) → j < length takers → IsFree fills k j → (taker_at takers j).from ≤ p
+      → (taker_at takers j).by ≤ p → ⊥
+
 -- turn k can't be taken by position p: it is not there, it may only be taken later, or nobody is
--- left who may take it
+-- left who may take it, or to whom a spare turn is given
 abbrev pub CantBeTaken : List Turn → List Taker → List Fill → ℕ → ℕ → Type 0
 CantBeTaken turns takers fills p k =
     (length turns ≤ k) ⊎ IsClosed turns p k ⊎ IsLacking turns takers fills p k
+    ⊎ IsIdle turns takers fills p k

@@ -127,11 +127,28 @@ abbrev pub NobodyChosen : List Taker → List ℕ → ℕ → Type 0
 NobodyChosen takers free v = IsChoice takers free (Some v) (length free) None
     × IsChoice takers free None (length free) None
 
+-- of the free ones this one is due by position p
+pub record IsDueBy (takers : List Taker) (free : List ℕ) (p place : ℕ) : Type 0 where
+  pub within : place < length free
+  pub by : (free_at takers free place).by ≤ p
+
+abbrev pub NobodyDue : List Taker → List ℕ → ℕ → Type 0
+NobodyDue takers free p = (i : ℕ) → i < length free → p < (free_at takers free i).by
+
+-- of the free ones this one takes a turn of an item, or a spare one, at position p
+abbrev pub IsSuited : List Taker → List ℕ → ℕ → Option ℕ → ℕ → Type 0
+IsSuited takers free p (Some v) place = IsChosen takers free v place
+IsSuited takers free p None place = IsDueBy takers free p place
+
+abbrev pub NobodySuited : List Taker → List ℕ → ℕ → Option ℕ → Type 0
+NobodySuited takers free p (Some v) = NobodyChosen takers free v
+NobodySuited takers free p None = NobodyDue takers free p
+
 -- the next turn may be taken by the one at this place
 pub record IsNext (turns : List Turn) (takers : List Taker) (s : Sweep) (p place : ℕ) : Type 0 where
   pub turn : length s.fills.items < length turns
   pub from : (turn_at turns (length s.fills.items)).from ≤ p
-  pub chosen : IsChosen takers s.free.items (turn_at turns (length s.fills.items)).item place
+  pub suited : IsSuited takers s.free.items p (turn_at turns (length s.fills.items)).item place
 
 -- a demand that can't be met
 pub record IsStuck (end : ℕ) (turns : List Turn) (takers : List Taker) (fills : List Fill)

@@ -2,7 +2,7 @@
 ghost use Rattle.std.specs.Prelude.{◌≡◌, ℕ, ◌<◌, ◌≤◌, length, IfOk};
 ghost use Rattle.std.specs.List.Sorted.{IsPermutation, IsNonDecreasingBy};
 ghost use Rattle.calls_turns.specs.declared.turn.Taker.{Taker};
-ghost use Rattle.calls_turns.specs.Turns.{OthersNotDue};
+ghost use Rattle.calls_turns.specs.Turns.{OthersNotDue, SparesLast};
 ghost use Rattle.calls_turns.specs.Outcomes.{IsOutcome};
 ghost use Rattle.calls_turns.specs.Sweeps.{fill_at};
 ghost use Rattle.calls_turns.specs.Swept.{fillers};
@@ -58,6 +58,7 @@ fn assign_sorted(
 ) -> Result<Outcome, AllocError>
     requires sorted { IsNonDecreasingBy (λ (x : Taker). x.from) takers.now }
     requires others { OthersNotDue end takers.now }
+    requires spares { SparesLast end turns.now }
     ensures { IfOk result (IsOutcome end turns.now takers.now) }
 {
     let demands = demands_of(alloc, end, turns, takers)?;
@@ -81,15 +82,16 @@ fn assign_sorted(
 }
 
 /// Decides who takes which turn. Turns are taken as late as may be, and each goes to the taker of
-/// its item who is due first or, if there is none, to a taker of any item. What is due at `end` or
-/// later need not be done.
+/// its item who is due first or, if there is none, to a taker of any item. A spare turn goes to a
+/// taker who is due. What is due at `end` or later need not be done.
 pub fn assign(
     alloc: Global,
     end: usize,
     turns: &[Turn],
     takers: &[Taker],
 ) -> Result<Outcome, AllocError>
-    requires { OthersNotDue end takers.now }
+    requires others { OthersNotDue end takers.now }
+    requires spares { SparesLast end turns.now }
     ensures { IfOk result (IsOutcome end turns.now takers.now) }
 {
     let sorted = sorted_takers(alloc, takers)?;

@@ -1,9 +1,11 @@
 //! Steps that show why a turn has to be taken by a position.
 ghost use Rattle.std.specs.Prelude.{◌≡◌, ◌<◌, ◌≤◌, length, IfOk, IfSome};
 ghost use Rattle.calls_turns.specs.Turns.{OthersNotDue};
-ghost use Rattle.calls_turns.specs.Sweeps.{AreFilled, IsUnmet};
+ghost use Rattle.calls_turns.specs.Steps.{known};
+ghost use Rattle.calls_turns.specs.Sweeps.{IsTakerDue, AreFilled, IsUnmet};
 ghost use Rattle.calls_turns.specs.Chains.{AreThere, position_of, IsStretch, IsLink, marked};
-ghost use Rattle.calls_turns.specs.Chains.{IsAdded, HasOneMore, IsLead};
+ghost use Rattle.calls_turns.specs.Chains.{IsAdded, HasOneMore, Leads, IsSized, AreReaching};
+ghost use Rattle.calls_turns.specs.Chains.{EndsAs, IsLead};
 
 use crate::demand::{Demand, Fill, Target};
 use crate::turn::{Reason, Step, Taker, Turn};
@@ -11,11 +13,11 @@ use std::alloc::{AllocError, Global};
 
 /// The turns before one that takers of an item need.
 #[derive(Clone, Copy)]
-struct Stretch {
+pub(crate) struct Stretch {
     /// The last turn of the item before them that was taken by somebody who is due later.
-    barrier: Option<usize>,
+    pub(crate) barrier: Option<usize>,
     /// How many takers there are, with the one who is due.
-    takers: usize,
+    pub(crate) takers: usize,
 }
 
 /// A step, which is found before the one that it follows from.
@@ -32,12 +34,12 @@ struct Link {
 struct Lead {
     /// The steps, the last one first.
     steps: Vec<Step>,
-    /// Whether a step has to reach a turn: of each turn that was taken.
+    /// Whether a step has to reach a turn: of each of the first turns, none of which is spare.
     needed: Vec<bool>,
 }
 
 /// Returns how many takers of an item are due by a position, back to a turn of somebody due later.
-fn stretch_of(
+pub(crate) fn stretch_of(
     turns: &[Turn],
     takers: &[Taker],
     fills: &[Fill],
@@ -45,14 +47,14 @@ fn stretch_of(
     at: usize,
     turn: usize,
 ) -> Stretch
-    requires there { AreThere turns.now takers.now fills.now }
+    requires there { AreThere turns.now takers.now fills.now turn }
     requires within { turn ≤ length fills.now }
     ensures { IsStretch turns.now takers.now fills.now item at turn result }
 {
     let mut count = 1;
     let mut k = turn;
     while 0 < k {
-        if turns[k - 1].item == item {
+        if turns[k - 1].item == Some(item) {
             if at < takers[fills[k - 1].taker].by {
                 return Stretch {
                     barrier: Some(k - 1),
@@ -70,11 +72,46 @@ fn stretch_of(
 }
 
 /// Returns when a turn was taken.
-fn position_of(fills: &[Fill], turn: Option<usize>) -> Option<usize>
+pub(crate) fn position_of(fills: &[Fill], turn: Option<usize>) -> Option<usize>
     requires { IfSome turn (λ k. k < length fills.now) }
     ensures { result ≡ position_of fills.now turn }
 {
     turn.map(|k| fills[k].demand.at)
+}
+
+/// Returns the step of takers of an item, of whom one was due and took no turn when this turn was
+/// next.
+fn takers_link(
+    end: usize,
+    turns: &[Turn],
+    takers: &[Taker],
+    fills: &[Fill],
+    at: usize,
+    turn: usize,
+    taker: usize,
+) -> Link
+    requires filled { AreFilled end turns.now takers.now fills.now }
+    requires others { OthersNotDue end takers.now }
+    requires within { turn ≤ length fills.now }
+    requires known { turn ≤ known turns.now }
+    requires before { at < end }
+    requires due { IsTakerDue takers.now fills.now turn at taker }
+    ensures { IsLink end turns.now takers.now fills.now turn at result }
+{
+    let item = takers[taker].item.unwrap();
+    let stretch = stretch_of(turns, takers, fills, item, at, turn);
+    Link {
+        step: Step {
+            at,
+            count: turn + 1,
+            reason: Reason::Takers {
+                item,
+                after: position_of(fills, stretch.barrier),
+                takers: stretch.takers,
+            },
+        },
+        needs: stretch.barrier,
+    }
 }
 
 /// Returns a step to a demand that was not met when this turn was next.
@@ -89,10 +126,10 @@ fn link_of(
     requires filled { AreFilled end turns.now takers.now fills.now }
     requires others { OthersNotDue end takers.now }
     requires within { turn ≤ length fills.now }
+    requires known { turn ≤ known turns.now }
     requires unmet { IsUnmet end turns.now takers.now fills.now turn demand }
     ensures { IsLink end turns.now takers.now fills.now turn demand.at result }
 {
-    prove!(demand.at < end);
     match demand.target {
         Target::Turn(n) => Link {
             step: Step {
@@ -102,22 +139,7 @@ fn link_of(
             },
             needs: None,
         },
-        Target::Taker(j) => {
-            let item = takers[j].item.unwrap();
-            let stretch = stretch_of(turns, takers, fills, item, demand.at, turn);
-            Link {
-                step: Step {
-                    at: demand.at,
-                    count: turn + 1,
-                    reason: Reason::Takers {
-                        item,
-                        after: position_of(fills, stretch.barrier),
-                        takers: stretch.takers,
-                    },
-                },
-                needs: stretch.barrier,
-            }
-        }
+        Target::Taker(j) => takers_link(end, turns, takers, fills, demand.at, turn, j),
     }
 }
 
@@ -132,7 +154,7 @@ fn add_step(steps: &mut Vec<Step>, step: Step) -> Result<(), AllocError>
 }
 
 /// Marks a turn, if there is one.
-fn mark(marks: &mut [bool], turn: Option<usize>)
+pub(crate) fn mark(marks: &mut [bool], turn: Option<usize>)
     requires { IfSome turn (λ k. k < length marks.now) }
     ensures { marks.new ≡ marked marks.old turn }
 {
@@ -153,9 +175,9 @@ fn add_link(
 ) -> Result<(), AllocError>
     requires filled { AreFilled end turns.now takers.now fills.now }
     requires others { OthersNotDue end takers.now }
-    requires within { turn ≤ length fills.now }
+    requires sized { IsSized turns.now fills.now lead.old.needed.items }
+    requires within { turn ≤ length lead.old.needed.items }
     requires unmet { IsUnmet end turns.now takers.now fills.now turn demand }
-    requires sized { length lead.old.needed.items ≡ length fills.now }
     ensures { IfOk result (λ _. HasOneMore end turns.now takers.now fills.now turn demand.at
         lead.old lead.new) }
 {
@@ -164,8 +186,59 @@ fn add_link(
     add_step(&mut lead.steps, link.step)
 }
 
+/// Adds the steps to the turns that are needed, and returns all of them, the last one first. Each
+/// turn that is needed, at the beginning or by a later step, has one step.
+fn all_steps(
+    end: usize,
+    turns: &[Turn],
+    takers: &[Taker],
+    fills: &[Fill],
+    begun: Lead,
+) -> Result<Vec<Step>, AllocError>
+    requires filled { AreFilled end turns.now takers.now fills.now }
+    requires others { OthersNotDue end takers.now }
+    requires sized { IsSized turns.now fills.now begun.needed.items }
+    requires leads { Leads end turns.now takers.now fills.now (length begun.needed.items)
+        begun.needed.items begun.steps.items }
+    ensures reaching { IfOk result (λ steps. AreReaching end turns.now takers.now fills.now
+        begun.needed.items steps.items) }
+    ensures last { IfOk result (λ steps. EndsAs begun.steps.items steps.items) }
+{
+    let mut lead = begun;
+    let mut k = lead.needed.len();
+    while 0 < k {
+        k -= 1;
+        if lead.needed[k] {
+            add_link(end, turns, takers, fills, fills[k].demand, k, &mut lead)?;
+        }
+    }
+    Ok(lead.steps)
+}
+
+/// Lists the steps to the turns that are needed, the last one first.
+pub(crate) fn steps_to(
+    alloc: Global,
+    end: usize,
+    turns: &[Turn],
+    takers: &[Taker],
+    fills: &[Fill],
+    needed: Vec<bool>,
+) -> Result<Vec<Step>, AllocError>
+    requires filled { AreFilled end turns.now takers.now fills.now }
+    requires others { OthersNotDue end takers.now }
+    requires sized { IsSized turns.now fills.now needed.items }
+    ensures { IfOk result (λ steps. AreReaching end turns.now takers.now fills.now needed.items
+        steps.items) }
+{
+    let lead = Lead {
+        steps: Vec::new(alloc),
+        needed,
+    };
+    all_steps(end, turns, takers, fills, lead)
+}
+
 /// Lists the steps to a demand that can't be met and to the turns that are needed, the last one
-/// first. Each turn that is needed, by the caller or by a later step, has one step.
+/// first.
 pub(crate) fn steps_of(
     alloc: Global,
     end: usize,
@@ -177,6 +250,7 @@ pub(crate) fn steps_of(
 ) -> Result<Vec<Step>, AllocError>
     requires filled { AreFilled end turns.now takers.now fills.now }
     requires others { OthersNotDue end takers.now }
+    requires known { length fills.now ≤ known turns.now }
     requires unmet { IsUnmet end turns.now takers.now fills.now (length fills.now) demand }
     requires sized { length needed.items ≡ length fills.now }
     ensures { IfOk result (λ steps. IsLead end turns.now takers.now fills.now demand.at
@@ -186,14 +260,6 @@ pub(crate) fn steps_of(
         steps: Vec::new(alloc),
         needed,
     };
-    let mut k = fills.len();
-    add_link(end, turns, takers, fills, demand, k, &mut lead)?;
-    while 0 < k {
-        k -= 1;
-        if lead.needed[k] {
-            let earlier = fills[k].demand;
-            add_link(end, turns, takers, fills, earlier, k, &mut lead)?;
-        }
-    }
-    Ok(lead.steps)
+    add_link(end, turns, takers, fills, demand, fills.len(), &mut lead)?;
+    all_steps(end, turns, takers, fills, lead)
 }

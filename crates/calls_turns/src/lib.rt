@@ -4,11 +4,13 @@
 mod assigning;
 mod chaining;
 mod clash;
+mod counting;
 mod demand;
 mod laws;
+mod sharing;
 mod sweeping;
 mod turn;
 
 pub use assigning::{Outcome, assign};
 pub use laws::steps_leave_no_taking;
-pub use turn::{Clash, Reason, Shortage, Step, Taker, Turn};
+pub use turn::{Clash, Crowd, Reason, Share, Shortage, Step, Taker, Turn};

@@ -1,5 +1,6 @@
-//! Takes turns as late as may be: when something is due. A turn goes to the taker of its item who is
-//! due first or, if there is none, to a taker of any item.
+//! Takes turns as late as may be: when something is due. A turn goes to the taker of its item who
+//! is due first or, if there is none, to a taker of any item. A spare turn goes to a taker who is
+//! due.
 ghost use Rattle.std.specs.Prelude.{◌≡◌, ℕ, ◌+◌, ◌<◌, ◌≤◌, true, false, List, length, nat_lt, IfOk};
 ghost use Rattle.std.specs.Prelude.{IfSome, IfNone, MatchOption, slice_index};
 ghost use Rattle.std.specs.List.{Contains};
@@ -12,8 +13,8 @@ ghost use Rattle.calls_turns.specs.declared.demand.Target.{Target};
 ghost use Rattle.calls_turns.specs.Sweeps.{taker_at, AreFilled, CantBeTaken};
 ghost use Rattle.calls_turns.specs.Swept.{IsDemand, IsTarget, HaveTurns, HaveTakers, AreDemands};
 ghost use Rattle.calls_turns.specs.Swept.{is_met, IsSplit, HasCome, AreDueFrom, AreLater, IsAt};
-ghost use Rattle.calls_turns.specs.Swept.{free_at, IsChoice, IsChosen, NobodyChosen, IsNext};
-ghost use Rattle.calls_turns.specs.Swept.{IsStuck};
+ghost use Rattle.calls_turns.specs.Swept.{free_at, IsChoice, IsChosen, NobodyChosen, IsDueBy};
+ghost use Rattle.calls_turns.specs.Swept.{NobodyDue, IsSuited, NobodySuited, IsNext, IsStuck};
 
 use crate::demand::{Demand, Fill, Target};
 use crate::turn::{Taker, Turn};
@@ -158,6 +159,33 @@ fn chosen(takers: &[Taker], free: &[usize], item: usize) -> Option<usize>
     }
 }
 
+/// Returns the place of a taker who is due by a position, if there is one.
+fn due_by(takers: &[Taker], free: &[usize], at: usize) -> Option<usize>
+    requires { (i : ℕ) → i < length free.now → slice_index free.now i < length takers.now }
+    ensures { MatchOption result (NobodyDue takers.now free.now at)
+        (λ place. IsDueBy takers.now free.now at place) }
+{
+    for i in 0..free.len() {
+        if takers[free[i]].by <= at {
+            return Some(i);
+        }
+    }
+    None
+}
+
+/// Returns the place of the taker who takes a turn at a position: a turn of an item, or a spare
+/// one.
+fn suited(takers: &[Taker], free: &[usize], at: usize, item: Option<usize>) -> Option<usize>
+    requires { (i : ℕ) → i < length free.now → slice_index free.now i < length takers.now }
+    ensures { MatchOption result (NobodySuited takers.now free.now at item)
+        (λ place. IsSuited takers.now free.now at item place) }
+{
+    match item {
+        Some(item) => chosen(takers, free, item),
+        None => due_by(takers, free, at),
+    }
+}
+
 /// Returns the place of the taker who takes the next turn at a position, if that can be done.
 fn next_place(turns: &[Turn], takers: &[Taker], sweep: &Sweep, at: usize) -> Option<usize>
     requires { IsAt turns.now takers.now sweep.now at }
@@ -168,7 +196,7 @@ fn next_place(turns: &[Turn], takers: &[Taker], sweep: &Sweep, at: usize) -> Opt
 {
     let k = sweep.fills.len();
     if k < turns.len() && turns[k].from <= at {
-        chosen(takers, &sweep.free, turns[k].item)
+        suited(takers, &sweep.free, at, turns[k].item)
     } else {
         None
     }

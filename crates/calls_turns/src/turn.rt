@@ -1,10 +1,10 @@
 //! Turns, and those who take them.
 
-/// A turn of an item. Turns are taken one after another, in the order of a list.
+/// A turn of an item, or a spare one. Turns are taken one after another, in the order of a list.
 #[derive(Clone, Copy, Debug, PartialEq, Eq)]
 pub struct Turn {
-    /// The item.
-    pub item: usize,
+    /// The item; `None` if the turn is spare: it may be of any item.
+    pub item: Option<usize>,
     /// It is not taken before this position.
     pub from: usize,
     /// It is taken by this position, if this is before the end.
@@ -40,7 +40,8 @@ pub struct Step {
 pub enum Reason {
     /// The last of them is due by then.
     Due,
-    /// So many takers of an item take their turns after a position, or at any time, and by then.
+    /// So many takers of an item take their turns after a position, or at any time, and by then. If
+    /// that position is not before it, this can't be, and any number of turns follows.
     Takers {
         /// The item.
         item: usize,
@@ -66,6 +67,36 @@ pub struct Shortage {
     pub takers: usize,
 }
 
+/// Takers of an item who take their turns by a position, and turns of the item that are left for
+/// them: if these are less, some of the takers take spare turns.
+#[derive(Clone, Copy, Debug, PartialEq, Eq)]
+pub struct Share {
+    /// The item.
+    pub item: usize,
+    /// They take their turns after this position, or at any time.
+    pub after: Option<usize>,
+    /// How many takers there are, at least.
+    pub takers: usize,
+    /// How many turns of the item are not taken by the position after which they take theirs, at
+    /// most.
+    pub turns: usize,
+}
+
+/// More takers are due by a position than turns of their items are left for them. The others take so
+/// many spare turns that one of them is taken by then, which is not taken before a later position;
+/// or there are not so many turns.
+#[derive(Debug, Drop)]
+pub struct Crowd {
+    /// The index of that turn.
+    pub turn: usize,
+    /// The position.
+    pub at: usize,
+    /// How many turns come before the spare ones.
+    pub known: usize,
+    /// The takers, for each of some items.
+    pub shares: Vec<Share>,
+}
+
 /// Why not so many turns can be taken.
 #[derive(Debug, Drop)]
 pub enum Clash {
@@ -80,4 +111,7 @@ pub enum Clash {
         /// How many takers of any item may take turns by the position of the last step.
         others: usize,
     },
+    /// More takers are due by a position than turns of their items are left for them, and than there
+    /// are spare turns.
+    Full(Crowd),
 }

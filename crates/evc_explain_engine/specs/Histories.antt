@@ -6,6 +6,8 @@ use Rattle.calls_core.specs.declared.history.Call.{Call}
 use Rattle.calls_core.specs.declared.history.Placed.{Placed}
 use Rattle.calls_schedule.specs.declared.job.Bound.{Bound}
 use Rattle.calls_turns.specs.declared.turn.Step.{Step}
+use Rattle.calls_turns.specs.declared.turn.Clash.{Clash}
+use Rattle.calls_turns.specs.declared.turn.Clash.TheVariants.{Closed, Few, Full}
 use Rattle.calls_buffers.specs.declared.fault.Fault as items
 use Rattle.calls_buffers.specs.declared.fault.Fault.TheVariants as item
 use Rattle.calls_cells.specs.declared.outcome.Fault as cells
@@ -56,6 +58,12 @@ if_before at position = if nat_lt position at then position ∷ [] else []
 abbrev pub ends_before : ℕ → Call → List ℕ
 ends_before at c = if_before at c.first ++ if_before at c.last
 
+-- the position of a count that is no step
+abbrev pub clash_marks : Clash → List ℕ
+clash_marks (Closed k) = []
+clash_marks (Few shortages n) = []
+clash_marks (Full crowd) = crowd.at ∷ []
+
 -- the positions of the counts that a fault names
 abbrev pub item_marks : items.Fault → List ℕ
 item_marks (item.Unproduced c taken put) = []
@@ -65,7 +73,8 @@ item_marks (item.Overtaken p c before later all) = []
 item_marks (item.Passed p c left pending) = []
 item_marks (item.Squeezed q p left pending) = []
 item_marks (item.Overdue bounds) = map (λ (b : Bound). b.at) bounds.items
-item_marks (item.Outrun flow steps clash) = map (λ (s : Step). s.at) steps.items
+item_marks (item.Outrun flow steps clash) =
+    map (λ (s : Step). s.at) steps.items ++ clash_marks clash
 
 abbrev pub marks_of : Fault → List ℕ
 marks_of (faults.Count f) = []

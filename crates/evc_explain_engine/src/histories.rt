@@ -1,9 +1,10 @@
 //! Explains the histories of calls of a text.
 ghost use Rattle.std.specs.Prelude.{◌≡◌, ◌≤◌, ◌++◌, ◌∷◌, [], IfOk, OnOk, length, if◌then◌else◌};
-ghost use Rattle.std.specs.Prelude.{nat_lt};
+ghost use Rattle.std.specs.Prelude.{nat_lt, map};
 ghost use Rattle.std.specs.List.{flat_map};
 ghost use Rattle.ec_trace.specs.declared.read.TheConstants.{TRACE_MAX};
 ghost use Rattle.ec_text.specs.Puts.{Puts};
+ghost use Rattle.calls_turns.specs.declared.turn.Step.{Step};
 ghost use Rattle.calls_report.specs.Checks.{IsUndecided, IsRefused};
 ghost use Rattle.evc_explain_engine.specs.Histories.{event_line};
 ghost use Rattle.evc_explain_engine.specs.Good.{ordered_text};
@@ -12,7 +13,7 @@ ghost use Rattle.evc_explain_engine.specs.Histories.{seen_lines, count_reason, t
 ghost use Rattle.evc_explain_engine.specs.Histories.{distinct_reason, reason_for, ExplainsRefused};
 ghost use Rattle.evc_explain_engine.specs.Histories.{ExplainsUndecided, Judges, ExplainsHistories, IsUnread};
 ghost use Rattle.evc_explain_engine.specs.Histories.{open_position, first_put};
-ghost use Rattle.evc_explain_engine.specs.Histories.{item_marks, marks_of};
+ghost use Rattle.evc_explain_engine.specs.Histories.{clash_marks, item_marks, marks_of};
 
 use crate::explanation::{Explanation, explain_finding, whole};
 use crate::good::ordered_bytes;
@@ -21,6 +22,7 @@ use calls_report::{report_refusal, report_undecided};
 use calls_schedule::Bound;
 use calls_shapes::faulty_calls;
 use calls_text::{Read, Recording, TextFault, read_history};
+use calls_turns::{Clash, Step};
 use calls_verdict::{Fault, Refusal, Undecided, Verdict, decide};
 use ec_explain::{Cause, calls_finding, finding_at, line_at, put_line_seen};
 use ec_text::Output;
@@ -77,6 +79,18 @@ fn marks_before(alloc: Global, at: usize, marks: &[usize]) -> Result<Vec<usize>,
     Ok(positions)
 }
 
+/// Returns the positions of steps, and of the count that follows them if it is none.
+fn outrun_marks(alloc: Global, steps: &[Step], clash: &Clash) -> Result<Vec<usize>, AllocError>
+    ensures { IfOk result (λ ps. ps.items
+        ≡ map (λ (s : Step). s.at) steps.now ++ clash_marks clash.now) }
+{
+    let mut positions: Vec<usize> = steps.iter().map(|step| step.at).collect(alloc)?;
+    if let Clash::Full(crowd) = clash {
+        positions.push(crowd.at)?;
+    }
+    Ok(positions)
+}
+
 /// Returns the positions of the counts that a fault of a buffer names.
 fn item_marks(alloc: Global, fault: &calls_buffers::Fault) -> Result<Vec<usize>, AllocError>
     ensures { IfOk result (λ ps. ps.items ≡ item_marks fault.now) }
@@ -91,9 +105,7 @@ fn item_marks(alloc: Global, fault: &calls_buffers::Fault) -> Result<Vec<usize>,
         calls_buffers::Fault::Overdue { bounds } => {
             bounds.iter().map(|bound| bound.at).collect(alloc)
         }
-        calls_buffers::Fault::Outrun { steps, .. } => {
-            steps.iter().map(|step| step.at).collect(alloc)
-        }
+        calls_buffers::Fault::Outrun { steps, clash, .. } => outrun_marks(alloc, steps, clash),
     }
 }
 

@@ -24,7 +24,7 @@ from trying.calls.theorems import (
 from trying.calls.verdict import judge
 from trying.counting import Fault, need
 from trying.verdicts.chains import is_chain, is_decided, windows_of
-from trying.verdicts.turns import is_outrun, is_put_in_turn, is_taken_in_turn, turns_of
+from trying.verdicts.turns import Crowd, is_outrun, is_put_in_turn, is_taken_in_turn, turns_of
 
 
 def note_faults(history, verdict, note):
@@ -465,15 +465,32 @@ class Claim:
             shortages.append((position, count - 1, needed, come, item))
         return shortages, others
 
+    def crowd(self, text, turn):
+        """Returns what is said of items that consumes don't return."""
+        position = lambda line: int(line) - self.history.first_line
+        share = (
+            r"(\d+) produces? of (\d+)(?: called after line (\d+))? had returned,"
+            r" and consumes return (?:none|at most (\d+))"
+        )
+        shares = [
+            (int(item), position(after) if after else None, int(calls), int(most or 0))
+            for calls, item, after, most in re.findall(share, text)
+        ]
+        known, number = re.search(r"so with the (\d+) that they return at least (\d+) ", text).groups()
+        need(int(number) == turn + 1, "it is too early for another item")
+        return Crowd(turn, position(re.match(r"by line (\d+)", text)[1]), int(known), shares)
+
     def outrun(self, words):
         """Checks the steps: each follows from those before it, and together they need more items than there can be."""
-        flow, text = "in" if " put in" in words["steps"] else "out", words["clash"]
+        crowd, text = words["crowd"], words["clash"]
+        flow = "in" if crowd or " put in" in words["steps"] else "out"
         room, (puts, takes, asked) = self.room(), accesses(self.calls)
-        is_known = is_taken_in_turn(puts) if flow == "out" else is_put_in_turn(puts, takes)
+        is_known = is_taken_in_turn(puts) if flow == "out" else is_put_in_turn(puts, takes, asked)
         need(is_known, "the order of the items is not known")
-        steps = [self.step(step, flow, room) for step in words["steps"].split("; ")]
+        steps = [self.step(step, flow, room) for step in words["steps"].split("; ") if step]
         is_closed = "no more than" in text
         clash = self.closed(text, flow, room) if is_closed else self.shortages(text, flow, steps[-1][0])
+        clash = self.crowd(crowd, clash) if crowd else clash
         turns, takers = turns_of(flow, puts, takes, asked, room, self.at + 1)
         need(is_outrun(turns, takers, steps, clash, self.at + 1), "a step does not follow")
 

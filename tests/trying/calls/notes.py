@@ -48,6 +48,14 @@ CLASH = (
     f"|{SHORTAGE}(?:; {SHORTAGE})*"
     f"(?:; and only (?!0 ){COUNTED.format('pending consume')} had been called by line {NUMBER})?)"
 )
+# More items are put in than consumes return and there is room for.
+SHARE = (
+    f"{ITS_CALLS} of {NUMBER}(?: called after line {NUMBER})? had returned,"
+    f" and consumes return (?:none|at most (?!0 ){NUMBER}) of these items"
+)
+CROWD = (
+    f"by line {NUMBER}, {SHARE}(?:; {SHARE})*, so with the {NUMBER} that they return at least {ITEMS} had been put in"
+)
 HELD = f"(?P<X>[^ ]+) returned (?P<value>{VALUE})"
 
 # The forms of notes on histories: the name of the form, and all after `line N: `. The notes on what is
@@ -86,7 +94,7 @@ NOTES = {
     "squeezed": f"{BY_LINE}{some('left', 'item')} had been put in that no consume called by line (?P<other>{NUMBER})"
     f" has returned, {ASKING}; and (?P<item>{NUMBER}), put in once, by then, was not taken by line (?P=one)",
     "overdue": f"(?P<bounds>{BOUND}(?:; {BOUND})*)",
-    "outrun": f"(?P<steps>{STEP}(?:; {STEP})*), but (?P<clash>{CLASH})",
+    "outrun": f"(?P<steps>(?:{STEP}(?:; {STEP})*)?)(?:(?:; )?(?P<crowd>{CROWD}))?, but (?P<clash>{CLASH})",
     "unfound": f"(?P<B>[^ ]+) is not decided from line (?P<from>{NUMBER}) on",
     "undecided": f"(?P<X>[^ ]+) is not decided: (?P<value>{VALUE}) was (?P<put>put|written)"
     f" more than once, and the (?P<puts>puts|writes) of lines (?P<one>{NUMBER})"

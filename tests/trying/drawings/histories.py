@@ -132,7 +132,8 @@ def bounds(history, name, position):
     start, raising, lowering = moves(history, name)
     up = tally(history.calls, raising, position)
     down = tally(history.calls, lowering, position) if lowering else (0, 0)
-    return max(0, start + up[1] - down[0]), max(0, start + up[0] - down[1])
+    least, most = max(0, start + up[1] - down[0]), max(0, start + up[0] - down[1])
+    return least, min(most, history.rooms.get(name, most))
 
 
 def moved(history, name, points, position):

@@ -5,7 +5,7 @@ import re
 from trying.verdicts.brute import Calls, is_linearizable
 from trying.verdicts.chains import is_chain, is_decided, windows_of
 from trying.verdicts.histories import kept
-from trying.verdicts.turns import is_outrun, is_put_in_turn, is_taken_in_turn, turns_of
+from trying.verdicts.turns import Crowd, is_outrun, is_put_in_turn, is_taken_in_turn, turns_of
 
 
 def accesses(calls):
@@ -27,20 +27,30 @@ def shows_steps(calls, room, words, end):
     @POSITION; and a clash."""
     flow, *rest = words
     puts, takes, asked = accesses(calls)
-    if not (is_taken_in_turn(puts) if flow == "out" else is_put_in_turn(puts, takes)):
+    if not (is_taken_in_turn(puts) if flow == "out" else is_put_in_turn(puts, takes, asked)):
         return False
-    split = rest.index("few" if "few" in rest else "closed")
+    split = next(i for i, word in enumerate(rest) if word in ("closed", "few", "full"))
     steps = [step_of(word) for word in rest[:split]]
     return is_outrun(*turns_of(flow, puts, takes, asked, room, end), steps, clash_of(*rest[split:]), end)
 
 
 def clash_of(name, *words):
-    """Returns a clash of these words: closed TURN; or few, shortages POSITION:TURN/TURNS-TAKERS*ITEM, and +OTHERS."""
+    """Returns a clash of these words: closed TURN; or few, shortages POSITION:TURN/TURNS-TAKERS*ITEM, and +OTHERS; or full,
+    TURN@POSITION, KNOWN, and shares TAKERS/TURNS*ITEM with @POSITION."""
     if name == "closed":
         return int(*words)
+    if name == "full":
+        turn, at = map(int, words[0].split("@"))
+        return Crowd(turn, at, int(words[1]), [share_of(word) for word in words[2:]])
     *shortages, others = words
     forms = [re.fullmatch(r"(\d+):(\d+)/(\d+)-(\d+)\*(\d+)", word) for word in shortages]
     return [tuple(map(int, form.groups())) for form in forms], int(re.fullmatch(r"\+(\d+)", others)[1])
+
+
+def share_of(word):
+    found = re.fullmatch(r"(\d+)/(\d+)\*(\d+)(?:@(\d+))?", word)
+    takers, turns, item, after = (None if n is None else int(n) for n in found.groups())
+    return item, after, takers, turns
 
 
 def step_of(word):

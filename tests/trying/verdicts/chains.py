@@ -45,7 +45,7 @@ def is_chain(windows, room, bounds, end):
 def is_decided(puts, takes, asked):
     """Whether the calls are of a class that is always decided: each item is put in at most once, and no pending consume
     may have taken one; or the items are taken out, or put in, in a known order."""
-    if is_taken_in_turn(puts) or is_put_in_turn(puts, takes):
+    if is_taken_in_turn(puts) or is_put_in_turn(puts, takes, asked):
         return True
     items = [item for item, first, last in puts]
     kept = [item for item, first, last in puts if last is not None and item not in [take[0] for take in takes]]

@@ -5,7 +5,7 @@ use Rattle.calls_core.specs.Lists.{Each}
 use Rattle.calls_core.proofs.Lists.{each_append}
 use Rattle.calls_turns.specs.declared.turn.Turn.{Turn}
 use Rattle.calls_turns.specs.declared.turn.Taker.{Taker}
-use Rattle.calls_turns.specs.Turns.{IsTaking}
+use Rattle.calls_turns.specs.Turns.{IsTaking, SparesLast}
 use Rattle.calls_turns.specs.Outcomes.{IsOutcome}
 use Rattle.calls_buffers.specs.declared.accesses.Access.{Access}
 use Rattle.calls_buffers.specs.declared.windows.Window.{Window}
@@ -14,6 +14,7 @@ use Rattle.calls_buffers.specs.kept.Settling.{AreGiven}
 use Rattle.calls_buffers.specs.kept.Takings.{taken_windows}
 use Rattle.calls_buffers.proofs.JobsOf.{within_calls}
 use Rattle.calls_buffers.proofs.Takings.{taken_given, takers_due, askers_due}
+use Rattle.calls_buffers.proofs.Spares.{none_spare}
 use Rattle.calls_buffers.proofs.turns.by_takes.Goals as goal
 
 pub assign-requires : goal.assign-requires
@@ -21,10 +22,14 @@ assign-requires c =
     let end = c.args.end in
     let takes = c.args.takes.now in
     let pending = c.args.pending.now in
-    subst (λ (xs : List Taker). Each (λ (x : Taker). x.item ≡ None → end ≤ x.by) xs)
-    (sym (c.deref-2.ensures.value ∙ c.in_ok-all_takers.ensures))
-    (each_append (λ (x : Taker). x.item ≡ None → end ≤ x.by) (takers_of 0 takes)
-    (askers_of end 0 pending) (takers_due end 0 takes) (askers_due end 0 pending))
+    record {
+      others = subst (λ (xs : List Taker). Each (λ (x : Taker). x.item ≡ None → end ≤ x.by) xs)
+          (sym (c.deref-2.ensures.value ∙ c.in_ok-all_takers.ensures))
+          (each_append (λ (x : Taker). x.item ≡ None → end ≤ x.by) (takers_of 0 takes)
+          (askers_of end 0 pending) (takers_due end 0 takes) (askers_due end 0 pending));
+      spares = subst (SparesLast end) (sym (c.deref.ensures.value ∙ c.in_ok-turns.ensures))
+          (none_spare c.args.room end c.args.puts.now);
+    }
 
 pub returns-in-Assigned : goal.returns-in-Assigned
 returns-in-Assigned c = λ done asking calls different moved apart same asks.

@@ -12,7 +12,8 @@ assign_sorted-requires c = record {
       c.in_ok-sorted.ensures.sorted;
   others = subst (λ l. OthersNotDue c.args.end l) (sym c.deref.ensures.value)
       (each_moved (λ (x : Taker). x.item ≡ None → c.args.end ≤ x.by) c.args.takers.now _
-      c.in_ok-sorted.ensures.all c.requires);
+      c.in_ok-sorted.ensures.all c.requires.others);
+  spares = c.requires.spares;
 }
 
 pub returns : goal.returns

@@ -1,29 +1,10 @@
-use Rattle.std.proofs.Common.{◌∙◌, ap, sym, arith}
-use Rattle.calls_core.proofs.Lists.{each_weaker}
-use Rattle.calls_turns.specs.Steps.{others_by, IsShortage}
-use Rattle.calls_turns.specs.Shortages.{IsFound}
-use Rattle.calls_turns.proofs.Shortfalls.{found_shortage}
+use Rattle.std.proofs.Common.{arith, length}
+use Rattle.calls_turns.proofs.Loads.{known_lacking}
 use Rattle.calls_turns.proofs.clash.refute.Goals as goal
 
-pub returns : goal.returns
-returns c =
-    let turns = c.args.turns.now in
-    let takers = c.args.takers.now in
-    let fills = c.args.fills.now in
-    let p = c.args.demand.at in
-    let lack = c.in_ok-shortages.field-0 in
-    let needed = lack.needed.items in
-    let steps = c.in_ok-steps-2.steps.items in
-    let lead = c.in_ok-steps-2.ensures in
-    let is = c.in_ok-shortages.ensures in
-    record {
-      steps = lead.steps;
-      clashes = record {
-        each = each_weaker (IsFound turns takers fills p needed) (IsShortage turns takers steps)
-            (λ s. found_shortage c.args.end turns takers fills p needed steps s lead)
-            lack.shortages.items is.each;
-        apart = is.apart;
-        come = c.count_others-others.ensures ∙ ap (others_by takers) (sym lead.at);
-        more = omega (arith, is.more, c.count_others-others.ensures);
-      };
-    }
+pub few-requires-clause-lacking : goal.few-requires-clause-lacking
+few-requires-clause-lacking c =
+    known_lacking c.args.turns.now c.args.takers.now c.args.fills.now c.args.demand.at
+    (length c.args.fills.now) (omega (arith, c.if-turn-first.true, c.count_known-first.ensures))
+    (c.is_open.ensures.there c.if-is_open.true) (c.is_open.ensures.from c.if-is_open.true)
+    c.requires.stuck.cant

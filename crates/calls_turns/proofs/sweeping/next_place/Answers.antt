@@ -1,13 +1,13 @@
 use Rattle.std.proofs.Common.{◌≡◌, ◌<◌, ℕ, length, get_or, arith, subst, sym, inl, MatchOption}
 use Rattle.calls_turns.specs.Sweeps.{turn_at}
-use Rattle.calls_turns.specs.Swept.{IsChosen, NobodyChosen}
-use Rattle.calls_turns.proofs.Filling.{free_below, none_chosen, closed}
+use Rattle.calls_turns.specs.Swept.{IsSuited, NobodySuited}
+use Rattle.calls_turns.proofs.Filling.{free_below, none_suited, closed}
 use Rattle.calls_turns.proofs.sweeping.next_place.Goals as goal
 use Rattle.calls_turns.proofs.sweeping.next_place.Goals.{else-k-turns-via-then-k-turns+else-turns-k}
 use Rattle.calls_turns.proofs.sweeping.next_place.Goals.{else-k-turns-via-else-k-turns}
 
-pub chosen-requires : goal.chosen-requires
-chosen-requires c =
+pub suited-requires : goal.suited-requires
+suited-requires c =
     let s = c.args.sweep.now in
     let takers = c.args.takers.now in
     subst (λ l. (i : ℕ) → i < length l → get_or l i 0 < length takers) (sym c.deref.ensures.value)
@@ -24,11 +24,11 @@ returns-then-turns-k-clause-none c end filled =
     let turns = c.args.turns.now in
     let k = c.len-k.result in
     let e : k ≡ length s.fills.items = omega (arith, c.len-k.ensures, s.fills.ok) in
-    let v = (turn_at turns k).item in
-    none_chosen turns takers s.fills.items s.next s.free.items c.args.at k c.chosen.result
+    let o = (turn_at turns k).item in
+    none_suited turns takers s.fills.items s.next s.free.items c.args.at k c.suited.result
     c.requires.split c.requires.later e c.if-k-turns.true
-    (subst (λ l. MatchOption c.chosen.result (NobodyChosen takers l v)
-    (λ place. IsChosen takers l v place)) c.deref.ensures.value c.chosen.ensures)
+    (subst (λ l. MatchOption c.suited.result (NobodySuited takers l c.args.at o)
+    (λ place. IsSuited takers l c.args.at o place)) c.deref.ensures.value c.suited.ensures)
 
 pub returns-else-k-turns-clause-none : goal.returns-else-k-turns-clause-none
 returns-else-k-turns-clause-none c end filled =
