@@ -32,7 +32,7 @@ JUDGED_MEMORY = {"decide": Target("`decide`: MiB", digits=0), "monitor": Target(
 # Histories of calls as text: how many calls of each kind, and how many tiny histories.
 TEXT_CALLS = 1_000_000
 TINY_HISTORIES = 20_000
-# The kinds that `evc-calls watch` judges, and how many MB it is given through a pipe.
+# The kinds that `evc-calls watch` judges event by event, and how many MB it is given through a pipe.
 WATCHED_KINDS = ("eventcount", "sequencer", "semaphore")
 PIPED = 1000
 PIPE = f"{PIPED} MB by a pipe"

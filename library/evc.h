@@ -39,7 +39,7 @@ enum evc_status {
     /* malloc gave nothing. No text was written; of evc_calls_check those of some first histories may have been. */
     EVC_STATUS_NO_MEMORY = 4,
     /* Of evc_calls_check: a history is not decided. The notes say which object, and why; the texts of the histories
-     * before it were written. Of a monitor: a cell, a database or a buffer is called. */
+     * before it were written. Of a monitor: the same, at the end of the history. */
     EVC_STATUS_NOT_DECIDED = 5
 };
 
@@ -86,7 +86,7 @@ uint8_t evc_calls_check(const uint8_t *calls, size_t calls_length, uint8_t *text
                         size_t notes_room, struct evc_written *written);
 
 /* MONITORS. A monitor judges histories of calls line by line, as `evc-calls watch` does, in memory that does not grow with
- * them. It lies in memory of yours:
+ * them; but the text of one that declares cells, databases or buffers is kept. It lies in memory of yours:
  *
  *     struct evc_monitor monitor;
  *     uint8_t note[EVC_NOTES_ROOM];
@@ -98,10 +98,10 @@ uint8_t evc_calls_check(const uint8_t *calls, size_t calls_length, uint8_t *text
  *     evc_monitor_close(&monitor);
  *
  * A status that is not EVC_STATUS_DONE stays: later lines and the end return it again, and nothing is judged any more. A
- * monitor allocates, by malloc, for what a history declares and for its pending calls, again for each history; the close
- * frees all of it. Open a monitor only once before its close, don't move it, and make only one call on it at a time. Any
+ * monitor allocates, by malloc, for what a history declares, its pending calls and its text, again for each history; the
+ * close frees all of it. Open a monitor only once before its close, don't move it, and make only one call on it at a time. Any
  * thread may. */
-#define EVC_MONITOR_WORDS 1024
+#define EVC_MONITOR_WORDS 1280
 struct evc_monitor {
     uint64_t kept[EVC_MONITOR_WORDS];
 };

@@ -90,7 +90,8 @@ pub struct Load {
     pub others: u64,
 }
 
-/// Judges histories of calls line by line, as `evc-calls watch` does, in memory that does not grow with them.
+/// Judges histories of calls line by line, as `evc-calls watch` does, in memory that does not grow with them; but the
+/// text of one that declares cells, databases or buffers is kept until its end.
 ///
 ///     let mut monitor = evc::Monitor::new()?;
 ///     for line in lines {
@@ -105,7 +106,7 @@ pub struct Monitor {
     ended: bool,
 }
 
-const MONITOR_WORDS: usize = 1024;
+const MONITOR_WORDS: usize = 1280;
 
 #[repr(C, align(16))]
 struct Place([u64; MONITOR_WORDS]);

@@ -48,7 +48,9 @@ LIMITS = {
         ("ec_heading/src/heading.rt", r"LINE_MAX: usize = ([\d_]+)"),
         ("ec_script/src/parsing.rt", r"SCRIPT_MAX: usize = ([\d_]+)"),
     ],
-    "bytes of a trace, and of histories but for `watch`": [("ec_trace/src/read.rt", r"TRACE_MAX: usize = ([\d_]+)")],
+    "bytes of a trace, and of histories but for `watch` without cells": [
+        ("ec_trace/src/read.rt", r"TRACE_MAX: usize = ([\d_]+)")
+    ],
     "entries of a picture": [("ec_draw/src/window.rt", r"COLUMNS_MAX: usize = ([\d_]+)")],
 }
 # The bounds of the formats that the recorders repeat, in each language, by their names there.

@@ -47,9 +47,10 @@ impl Range {
 }
 
 impl Scale {
-    /// Returns the scale of a panel that begins at a height.
-    pub(crate) fn new(range: Range, top: u64) -> Scale {
-        let height = range.reach().saturating_mul(20).max(40).min(220);
+    /// Returns the scale of a panel that begins at a height. `unit` is the height of a number, if there
+    /// are not many.
+    pub(crate) fn new(range: Range, unit: u64, top: u64) -> Scale {
+        let height = range.reach().saturating_mul(unit).max(40).min(220);
         Scale { range, top, height }
     }
 

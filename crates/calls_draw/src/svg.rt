@@ -20,6 +20,11 @@ use std::alloc::Global;
 /// The height of the gap between two panels.
 const GAP: u64 = 34;
 
+/// The height of a number of a panel, and if limits have words above and below their lines.
+const NUMBER: u64 = 20;
+
+const LIMIT: u64 = 30;
+
 /// The width of a letter of a note, and how many letters a line of it has room for in any picture.
 const LETTER: u64 = 8;
 
@@ -51,13 +56,22 @@ fn whole_range(picture: &Picture<'_>, panel: &Panel) -> Range {
     }
 }
 
+/// Returns the scale of a panel that begins at a height.
+fn scale_of(picture: &Picture<'_>, panel: &Panel, top: u64) -> Scale {
+    let unit = match evidence_in(picture, panel) {
+        Some(evidence) if !evidence.limits.is_empty() => LIMIT,
+        _ => NUMBER,
+    };
+    Scale::new(whole_range(picture, panel), unit, top)
+}
+
 /// Returns the height of a panel.
 fn panel_height(picture: &Picture<'_>, panel: &Panel) -> u64 {
     match (panel.subject, evidence_in(picture, panel)) {
         (_, Some(evidence)) if evidence.has_lanes() => lanes_height(evidence),
         (Subject::Values(_), _) => BLOCK,
         _ => {
-            let scale = Scale::new(whole_range(picture, panel), 0);
+            let scale = scale_of(picture, panel, 0);
             scale.height.saturating_add(panel.items.height())
         }
     }
@@ -124,7 +138,7 @@ fn put_header(out: &mut Pen<'_>, width: u64, height: u64) {
 
 /// Puts a panel of numbers.
 fn put_numbers(out: &mut Pen<'_>, picture: &Picture<'_>, panel: &Panel, top: u64) {
-    let scale = Scale::new(whole_range(picture, panel), top);
+    let scale = scale_of(picture, panel, top);
     put_scale(out, picture, &scale);
     match evidence_in(picture, panel) {
         Some(evidence) => put_refused(out, picture, panel, &scale, evidence),

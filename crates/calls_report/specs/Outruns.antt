@@ -85,14 +85,24 @@ steps_text s flow (x ∷ xs) = chain_text s flow x xs
 
 -- BUT THAT CAN'T BE
 
+abbrev pub no_calls : Flow → List ℕ
+no_calls In = codes "no produce"
+no_calls Out = codes "no consume"
+
+abbrev pub up_to : Flow → ℕ → List ℕ
+up_to flow n = codes "no more than " ++ calls_text flow n
+
+abbrev pub no_more : Flow → ℕ → List ℕ
+no_more flow n = if n == 0 then no_calls flow else up_to flow n
+
 abbrev pub full_text : SiteModel → ℕ → List ℕ
 full_text s k =
-    codes ", but no more than " ++ some (k - room_in s) (codes "consume")
-    ++ codes " had been called by then, with " ++ room_text s
+    codes ", but " ++ no_more Out (k - room_in s) ++ codes " had been called by then, with "
+    ++ room_text s
 
 abbrev pub empty_text : ℕ → List ℕ
 empty_text k =
-    codes ", but no more than " ++ some k (codes "produce") ++ codes " had been called by then"
+    codes ", but " ++ no_more In k ++ codes " had been called by then"
 
 abbrev pub closed_text : SiteModel → Flow → ℕ → List ℕ
 closed_text s In k = full_text s k
@@ -102,10 +112,6 @@ closed_text s Out k = empty_text k
 
 abbrev pub was_text : ℕ → List ℕ
 was_text n = if n == 1 then codes " was " else codes " were "
-
-abbrev pub no_calls : Flow → List ℕ
-no_calls In = codes "no produce"
-no_calls Out = codes "no consume"
 
 abbrev pub only_calls : Flow → ℕ → List ℕ
 only_calls flow n = codes "only " ++ calls_text flow n

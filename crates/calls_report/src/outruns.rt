@@ -5,8 +5,9 @@ ghost use Rattle.calls_report.specs.Outruns.{moved_text, least_text, due_put_tex
 ghost use Rattle.calls_report.specs.Outruns.{due_text, since_text, calls_text, takers_text};
 ghost use Rattle.calls_report.specs.Outruns.{needed_text, reason_text, step_text, next_step};
 ghost use Rattle.calls_report.specs.Outruns.{further_steps, chain_text, steps_text, full_text};
-ghost use Rattle.calls_report.specs.Outruns.{empty_text, closed_text, was_text, no_calls};
-ghost use Rattle.calls_report.specs.Outruns.{only_calls, few_calls, shortage_text, next_shortage};
+ghost use Rattle.calls_report.specs.Outruns.{no_calls, up_to, no_more, empty_text, closed_text};
+ghost use Rattle.calls_report.specs.Outruns.{was_text, only_calls, few_calls, shortage_text};
+ghost use Rattle.calls_report.specs.Outruns.{next_shortage};
 ghost use Rattle.calls_report.specs.Outruns.{further_shortages, listed_text};
 ghost use Rattle.calls_report.specs.Outruns.{shortages_text, asked_text, asking_text, others_text};
 ghost use Rattle.calls_report.specs.Outruns.{last_position, few_text, most_taken, taken_text};
@@ -194,12 +195,41 @@ fn put_steps<W: Write>(out: &mut Output<'_, W>, site: &Site<'_>, flow: Flow, ste
     }
 }
 
+/// Puts that there is no call that puts in or takes out an item.
+fn put_no_calls<W: Write>(out: &mut Output<'_, W>, flow: Flow)
+    ensures { Puts out.old out.new (no_calls flow) }
+{
+    match flow {
+        Flow::In => out.put(b"no produce"),
+        Flow::Out => out.put(b"no consume"),
+    }
+}
+
+/// Puts that there are at most so many calls that put in or take out an item.
+fn put_up_to<W: Write>(out: &mut Output<'_, W>, flow: Flow, n: usize)
+    ensures { Puts out.old out.new (up_to flow n) }
+{
+    out.put(b"no more than ");
+    put_calls(out, flow, n);
+}
+
+/// Puts that there is no call that puts in or takes out an item, or at most so many.
+fn put_no_more<W: Write>(out: &mut Output<'_, W>, flow: Flow, n: usize)
+    ensures { Puts out.old out.new (no_more flow n) }
+{
+    if n == 0 {
+        put_no_calls(out, flow);
+    } else {
+        put_up_to(out, flow, n);
+    }
+}
+
 /// Puts that for an item there was no room yet.
 fn put_full<W: Write>(out: &mut Output<'_, W>, site: &Site<'_>, turn: usize)
     ensures { Puts out.old out.new (full_text site.now turn) }
 {
-    out.put(b", but no more than ");
-    put_some(out, turn.saturating_sub(room(site)), b"consume");
+    out.put(b", but ");
+    put_no_more(out, Flow::Out, turn.saturating_sub(room(site)));
     out.put(b" had been called by then, with ");
     put_room(out, site);
 }
@@ -208,8 +238,8 @@ fn put_full<W: Write>(out: &mut Output<'_, W>, site: &Site<'_>, turn: usize)
 fn put_empty<W: Write>(out: &mut Output<'_, W>, turn: usize)
     ensures { Puts out.old out.new (empty_text turn) }
 {
-    out.put(b", but no more than ");
-    put_some(out, turn, b"produce");
+    out.put(b", but ");
+    put_no_more(out, Flow::In, turn);
     out.put(b" had been called by then");
 }
 
@@ -231,16 +261,6 @@ fn put_was<W: Write>(out: &mut Output<'_, W>, n: usize)
         out.put(b" was ");
     } else {
         out.put(b" were ");
-    }
-}
-
-/// Puts that there is no call that puts in or takes out an item.
-fn put_no_calls<W: Write>(out: &mut Output<'_, W>, flow: Flow)
-    ensures { Puts out.old out.new (no_calls flow) }
-{
-    match flow {
-        Flow::In => out.put(b"no produce"),
-        Flow::Out => out.put(b"no consume"),
     }
 }
 

@@ -1,6 +1,6 @@
 -- A call without a fault may be the next event.
 use Rattle.std.proofs.Common.{◌≡◌, ◌<◌, ◌&&◌, ◌==◌, ℕ, zero, suc, ◌+◌, ◌^◌, Bool, true, false, not}
-use Rattle.std.proofs.Common.{List, [], ◌∷◌, length, Option, Some, None, slice_get, refl, ap, sym}
+use Rattle.std.proofs.Common.{List, [], ◌∷◌, ◌++◌, length, Some, None, slice_get, refl, ap, sym}
 use Rattle.std.proofs.Common.{◌∙◌, subst, arith, cond, Ok}
 use Rattle.std.specs.Prelude.{is_some}
 use Rattle.std.specs.Option.{option_map_or}
@@ -21,7 +21,7 @@ use Rattle.calls_core.specs.declared.history.Op.TheVariants as ops
 use Rattle.calls_core.specs.declared.history.Action.{Action}
 use Rattle.calls_core.specs.declared.history.Action.TheVariants.{Invoke}
 use Rattle.calls_core.specs.declared.history.Event.{Event}
-use Rattle.calls_core.specs.Histories.{Takes, IsNext, pending_after}
+use Rattle.calls_core.specs.Histories.{Takes, IsNext, pending_after, invoked_by}
 use Rattle.calls_counts.specs.Faults.{is_advance}
 use Rattle.calls_text.specs.declared.fault.FaultKind.{FaultKind}
 use Rattle.calls_text.specs.declared.fault.FaultKind.TheVariants as faults
@@ -292,7 +292,7 @@ pub record IsMade (old : Running) (w : ℕ) (v : OpWord) (o : Object) (ws : List
   pub event : x ≡ record { at = old.count; worker = w; action = Invoke k op }
   pub recording : new.recording ≡ mid
   pub count : new.count ≡ old.count + 1
-  pub pending : new.pending.items ≡ pending_after x x.action old.pending.items
+  pub pending : new.pending.items ≡ old.pending.items ++ invoked_by x k op ∷ []
   pub tally : TallyAfter old.tally new.tally w v o
 
 pub call_made : (old : Running) (w : ℕ) (v : OpWord) (o : Object) (ws : List (List ℕ))
@@ -321,7 +321,8 @@ call_made old w v o ws mid new n k op x is fits none =
       record {
         at = ap (λ (y : Event). y.at) event;
         count = is.count;
-        pending = is.pending;
+        pending = subst (λ (a : Action). new.pending.items ≡ pending_after x a old.pending.items)
+            (sym (ap (λ (y : Event). y.action) is.event)) is.pending;
         tally = subst (IsTallied old.tally new.tally) (sym event)
             (tallied h old.tally new.tally w v o _ old.count fits is.tally);
         recording =

@@ -1,7 +1,7 @@
 -- Words that make a line.
 use Rattle.std.proofs.Common.{◌≡◌, ℕ, ◌*◌, ◌<◌, ◌≤◌, List, [], ◌∷◌, ◌++◌, length, map, Bool, true}
 use Rattle.std.proofs.Common.{false, eqb, leb, nat_lt, not, ◌||◌, refl, ap, ap₂, ◌∙◌, arith}
-use Rattle.std.proofs.Common.{decimal, length-append, le-ltb, ne_eqb}
+use Rattle.std.proofs.Common.{codes, decimal, length-append, le-ltb, ne_eqb}
 use Rattle.std.specs.Int.{IsInRange}
 use Rattle.std.specs.List.{AllByRecursion, join_with_byte, list_any, list_all}
 use Rattle.std.proofs.lemmas.Bool.{and_parts, not-true, leb-true}
@@ -13,6 +13,9 @@ use Rattle.ec_text.proofs.shared.WordLemmas.{words_join}
 use Rattle.ec_text.proofs.shared.NumberLemmas.{own}
 use Rattle.ec_heading.specs.Heading.{is_no_line}
 use Rattle.ec_heading.specs.Recalled.{with_spaces as spaced_words}
+use Rattle.calls_text.specs.declared.verb.OpWord.{OpWord}
+use Rattle.calls_text.specs.declared.verb.OpWord.TheVariants as verbs
+use Rattle.calls_text.specs.Verbs.{verb_word}
 use Rattle.calls_text.specs.Rules.{AreSmall}
 use Rattle.calls_text.proofs.TextParts.{IsPart}
 use Rattle.calls_text.proofs.Values.{join_spaced}
@@ -92,6 +95,21 @@ numbers_short (n ∷ ns) small =
       numbers_short ns small.1,
       length-append (32 ∷ decimal n) (spaced_words (map decimal ns)),
     )
+
+pub verb_fine : (v : OpWord) → IsFine (verb_word v)
+verb_fine verbs.Advance = literal_fine (codes "advance") refl refl refl refl
+verb_fine verbs.Read = literal_fine (codes "read") refl refl refl refl
+verb_fine verbs.Await = literal_fine (codes "await") refl refl refl refl
+verb_fine verbs.Ticket = literal_fine (codes "ticket") refl refl refl refl
+verb_fine verbs.Put = literal_fine (codes "put") refl refl refl refl
+verb_fine verbs.Get = literal_fine (codes "get") refl refl refl refl
+verb_fine verbs.P = literal_fine (codes "p") refl refl refl refl
+verb_fine verbs.V = literal_fine (codes "v") refl refl refl refl
+verb_fine verbs.PBoth = literal_fine (codes "pboth") refl refl refl refl
+verb_fine verbs.Write = literal_fine (codes "write") refl refl refl refl
+verb_fine verbs.Snapshot = literal_fine (codes "snapshot") refl refl refl refl
+verb_fine verbs.Produce = literal_fine (codes "produce") refl refl refl refl
+verb_fine verbs.Consume = literal_fine (codes "consume") refl refl refl refl
 
 -- LINES
 

@@ -252,7 +252,7 @@ suits_kept h c answers.Done ws says suits = (suits, refl)
 suits_kept h c answers.Timeout ws says suits = (suits, refl)
 suits_kept h c answers.Numbers ws says suits = (
   ap (takes_numbers h c c.op) (numbers_length ws) ∙ suits,
-  omega (arith, says, numbers_length ws),
+  omega (arith, says.0, numbers_length ws),
 )
 
 small_kept : (a : ReplyWord) (ws : List (List ℕ)) → is_bad_reply a ws ≡ false

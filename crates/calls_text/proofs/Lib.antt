@@ -10,6 +10,7 @@ mod CellWords
 mod Values
 mod ObjectWords
 mod PhraseWords
+mod BlankWords
 mod CallLines
 mod ReplyLines
 mod EventLines

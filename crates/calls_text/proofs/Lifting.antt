@@ -198,11 +198,11 @@ phrase_agrees events run (Some (Returns w a ws)) is =
 pub event_agrees : (events : List Event) (run : Running) (line : List ℕ) → IsRunning events run
     → event_step (with_events run.recording events) line
     ≡ lifted (with_events run.recording events) (event_by run line)
-unfolding event_step event_by
+unfolding event_step
 event_agrees events run line is =
     let r : RecordingModel = with_events run.recording events in
     elim (is_no_line line) as (λ b. cond b (Err faults.BadLine) (after_phrase r (phrase_in (words_of line)))
-    ≡ lifted r (cond b (Err faults.BadLine) (phrase_result run (phrase_in (words_of line))))) [
+    ≡ lifted r (phrase_result run (cond b None (phrase_in (words_of line))))) [
       | true ↦ refl
       | false ↦ phrase_agrees events run (phrase_in (words_of line)) is
     ]

@@ -65,16 +65,15 @@ only_back word (w ∷ v ∷ ws) is = cc
 abbrev pub SaysAnswer : ReplyWord → List (List ℕ) → Type 0
 SaysAnswer answers.Done ws = ws ≡ codes "done" ∷ []
 SaysAnswer answers.Timeout ws = ws ≡ codes "timeout" ∷ []
-SaysAnswer answers.Numbers ws = 1 ≤ length ws
+SaysAnswer answers.Numbers ws = (1 ≤ length ws) × (list_all is_number_form ws ≡ true)
 
 numbers_back : (a : ReplyWord) (ws : List (List ℕ)) (b : Bool)
     → (nat_le 1 (length ws) && list_all is_number_form ws) ≡ b
     → cond b (Some answers.Numbers) None ≡ Some a → SaysAnswer a ws
 numbers_back a ws true all is =
     let same : answers.Numbers ≡ a = cc in
-    let some : 1 ≤ length ws =
-    leb-true _ _ (and_parts (nat_le 1 (length ws)) (list_all is_number_form ws) all).0 in
-    subst (λ (x : ReplyWord). SaysAnswer x ws) same some
+    let both = and_parts (nat_le 1 (length ws)) (list_all is_number_form ws) all in
+    subst (λ (x : ReplyWord). SaysAnswer x ws) same (leb-true _ _ both.0, both.1)
 numbers_back a ws false all is = cc
 
 word_back : (word : List ℕ) (says a : ReplyWord) (ws : List (List ℕ)) (rest : Option ReplyWord)

@@ -41,7 +41,7 @@ use Rattle.calls_text.specs.Spelling.{group_word}
 use Rattle.calls_text.specs.Rules.{AreSmall, only, IsDeclaredIn, TakesNumbers, MayCall, after_call}
 use Rattle.calls_text.specs.Rules.{KeepsLimit, MayReturn, after_return}
 use Rattle.calls_text.proofs.TextParts.{IsPart}
-use Rattle.calls_text.proofs.FineWords.{IsFine, literal_fine, number_fine, numbers_fine}
+use Rattle.calls_text.proofs.FineWords.{IsFine, literal_fine, number_fine, numbers_fine, verb_fine}
 use Rattle.calls_text.proofs.FineWords.{numbers_short, IsLineOf, fine_line}
 use Rattle.calls_text.proofs.GroupNames.{database_fits, few_cells}
 use Rattle.calls_text.proofs.Finding.{worker_found, event_found, sequencer_found, cell_found}
@@ -245,21 +245,6 @@ verb_back verbs.Write = refl
 verb_back verbs.Snapshot = refl
 verb_back verbs.Produce = refl
 verb_back verbs.Consume = refl
-
-verb_fine : (v : OpWord) → IsFine (verb_word v)
-verb_fine verbs.Advance = literal_fine (codes "advance") refl refl refl refl
-verb_fine verbs.Read = literal_fine (codes "read") refl refl refl refl
-verb_fine verbs.Await = literal_fine (codes "await") refl refl refl refl
-verb_fine verbs.Ticket = literal_fine (codes "ticket") refl refl refl refl
-verb_fine verbs.Put = literal_fine (codes "put") refl refl refl refl
-verb_fine verbs.Get = literal_fine (codes "get") refl refl refl refl
-verb_fine verbs.P = literal_fine (codes "p") refl refl refl refl
-verb_fine verbs.V = literal_fine (codes "v") refl refl refl refl
-verb_fine verbs.PBoth = literal_fine (codes "pboth") refl refl refl refl
-verb_fine verbs.Write = literal_fine (codes "write") refl refl refl refl
-verb_fine verbs.Snapshot = literal_fine (codes "snapshot") refl refl refl refl
-verb_fine verbs.Produce = literal_fine (codes "produce") refl refl refl refl
-verb_fine verbs.Consume = literal_fine (codes "consume") refl refl refl refl
 
 call_read : (w o : List ℕ) (v : OpWord) (ws : List (List ℕ)) → is_tail (tail_of v) ws ≡ true
     → phrase_in (w ∷ codes "calls" ∷ verb_word v ∷ o ∷ ws) ≡ Some (Calls w v o ws)

@@ -4,3 +4,4 @@ pub mod Judging
 pub mod Results
 pub mod Stages
 pub mod Leading
+pub mod Phrases

@@ -2,11 +2,14 @@
 ghost use Rattle.std.specs.Prelude.{◌≡◌, option_map};
 ghost use Rattle.std.specs.List.{list_all};
 ghost use Rattle.ec_text.specs.Words.{words_of, is_number_form};
-ghost use Rattle.calls_text.specs.Forms.{is_tail, is_word, rest_words, call_in, return_in};
+ghost use Rattle.calls_text.specs.Forms.{is_tail, rest_words, call_in, return_in};
 ghost use Rattle.calls_text.specs.Forms.{parse_reply_word, phrase_in, phrase_of_parts};
+ghost use Rattle.calls_text.specs.kept.Phrases.{has_blank, phrase_of};
 
+use crate::literal::is_text;
 use crate::verb::{OpWord, Tail, parse_op_word};
-use ec_text::{cut_word, is_number_form};
+use ec_heading::LINE_MAX;
+use ec_text::{cut_word, has_blank, is_number_form};
 
 /// The form of the reply in a response.
 #[derive(Clone, Copy, Debug, PartialEq, Eq)]
@@ -99,24 +102,15 @@ fn call_of<'a>(worker: &'a [u8], line: &'a [u8]) -> Option<Parts<'a>>
     })
 }
 
-/// Returns whether the list is this one word.
-#[tactic(auto, using(crate::proofs::Words::two_words))]
-fn is_word(word: &[u8], list: &[u8]) -> bool
-    ensures { result ≡ is_word word.now (words_of list.now) }
-{
-    let (first, rest) = cut_word(list);
-    rest.is_none() && first == word
-}
-
 /// Returns the form of a reply, given the line after `returns`.
-#[tactic(auto, using(crate::proofs::Words::some_words))]
+#[tactic(auto, using(crate::proofs::Words::replies))]
 fn parse_reply_word(list: &[u8]) -> Option<ReplyWord>
     ensures { result ≡ parse_reply_word (words_of list.now) }
 {
-    if is_word(b"done".as_slice(), list) {
+    if is_text(list, b"done".as_slice()) {
         return Some(ReplyWord::Done);
     }
-    if is_word(b"timeout".as_slice(), list) {
+    if is_text(list, b"timeout".as_slice()) {
         return Some(ReplyWord::Timeout);
     }
     if are_number_forms(list) {
@@ -137,9 +131,9 @@ fn return_of<'a>(worker: &'a [u8], list: &'a [u8]) -> Option<Parts<'a>>
     })
 }
 
-/// Returns the parts of the line of an event, or `None` if it has not the form of one.
+/// Returns the parts of the words of a line, or `None` if they have not the form of an event.
 #[tactic(auto, unfolding(crate::specs::Forms::phrase_in))]
-pub(crate) fn split_event(line: &[u8]) -> Option<Parts<'_>>
+fn parts_of_words(line: &[u8]) -> Option<Parts<'_>>
     ensures { option_map phrase_of_parts result ≡ phrase_in (words_of line.now) }
 {
     let (worker, Some(line)) = cut_word(line) else {
@@ -148,11 +142,42 @@ pub(crate) fn split_event(line: &[u8]) -> Option<Parts<'_>>
     let (word, Some(line)) = cut_word(line) else {
         return None;
     };
-    if word == b"calls".as_slice() {
+    if is_text(word, b"calls".as_slice()) {
         return call_of(worker, line);
     }
-    if word == b"returns".as_slice() {
+    if is_text(word, b"returns".as_slice()) {
         return return_of(worker, line);
     }
     None
+}
+
+/// Returns whether one of the words is empty.
+fn has_blank_part(parts: &Parts<'_>) -> bool
+    ensures { result ≡ has_blank (phrase_of_parts parts.now) }
+{
+    match *parts {
+        Parts::Calls {
+            worker,
+            object,
+            rest,
+            ..
+        } => worker.is_empty() || object.is_empty() || rest.is_some_and(|list| has_blank(list)),
+        Parts::Returns { worker, .. } => worker.is_empty(),
+    }
+}
+
+/// Returns the parts of the line of an event, or `None` if it is too long, has an empty word, or
+/// has not the form of one.
+#[tactic(auto, using(crate::proofs::BlankWords::blanks))]
+pub(crate) fn split_event(line: &[u8]) -> Option<Parts<'_>>
+    ensures { option_map phrase_of_parts result ≡ phrase_of line.now }
+{
+    if line.len() > LINE_MAX {
+        return None;
+    }
+    let parts = parts_of_words(line)?;
+    if has_blank_part(&parts) {
+        return None;
+    }
+    Some(parts)
 }

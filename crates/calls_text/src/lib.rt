@@ -7,6 +7,7 @@ mod form;
 mod index;
 mod laws;
 mod lists;
+mod literal;
 mod object;
 mod opening;
 mod reading;

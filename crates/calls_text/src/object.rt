@@ -120,6 +120,7 @@ fn owns(object: &Object, group: &Group) -> bool
 }
 
 /// Returns whether an eventcount, a sequencer or a cell belongs to one of the groups.
+#[inline(always)]
 pub(crate) fn is_owned(groups: &[Group], object: &Object) -> bool
     ensures { result ≡ is_owned groups.now object.now }
 {

@@ -1,9 +1,9 @@
 //! Reads the lines of the events of a history.
 ghost use Rattle.std.specs.Prelude.{◌≡◌, ◌+◌, ◌++◌, ◌==◌, ◌||◌, [], not, length, map, None, Some, false};
-ghost use Rattle.std.specs.Prelude.{Ok, IfOk, OnOk, option_map};
+ghost use Rattle.std.specs.Prelude.{Ok, IfOk, IfSome, OnOk, option_map};
 ghost use Rattle.std.specs.List.{list_any};
 ghost use Rattle.ec_text.specs.Words.{words_of};
-ghost use Rattle.calls_core.specs.Histories.{pending_after};
+ghost use Rattle.calls_core.specs.Pending.{IsPendingOf};
 ghost use Rattle.calls_text.specs.Forms.{only_in, rest_words, phrase_of_parts};
 ghost use Rattle.calls_text.specs.Lists.{list_number, lists_after};
 ghost use Rattle.calls_text.specs.Objects.{object_in};
@@ -29,10 +29,10 @@ use crate::recording::Recording;
 use crate::tally::Tally;
 use crate::verb::{OpWord, Tail};
 use calls_core::{Action, Event, Op, PendingCall, Reply};
-use calls_verdict::{find, follow};
+use calls_verdict::find;
 use ec_count::WorkerId;
-use ec_heading::{Heading, LINE_MAX, count_words};
-use ec_text::{cut_word, has_blank, number};
+use ec_heading::{Heading, count_words};
+use ec_text::{cut_word, number};
 use std::alloc::{AllocError, Global};
 
 /// A history while its events are read. Its user may store them in the recording, or not.
@@ -367,12 +367,13 @@ impl Running {
         self.pending.as_slice().len()
     }
 
-    /// Returns the pending call of a worker.
-    fn pending_call(&self, worker: WorkerId) -> Option<PendingCall>
-        ensures { result ≡ pending_by self.now worker }
+    /// Returns the pending call of a worker, with its place among the pending calls.
+    fn pending_call(&self, worker: WorkerId) -> Option<(usize, PendingCall)>
+        ensures call { option_map (λ p. p.1) result ≡ pending_by self.now worker }
+        ensures place { IfSome result (λ p. IsPendingOf self.now.pending.items worker p.0) }
     {
         match find(&self.pending, worker.get()) {
-            Some(i) => Some(self.pending[i]),
+            Some(i) => Some((i, self.pending[i])),
             None => None,
         }
     }
@@ -390,16 +391,16 @@ impl Running {
         }
     }
 
-    /// Returns the next event, and updates the pending calls.
+    /// Returns the next event, and counts it. The pending calls stay as they are.
+    #[inline(always)]
     fn event(&mut self, worker: WorkerId, action: Action) -> Result<Event, AllocError>
         ensures at { IfOk result (λ x. x ≡ record {
           at = self.old.count;
           worker = worker;
           action = action;
         }) }
-        ensures pending { IfOk result (λ x. self.new.pending.items
-            ≡ pending_after x x.action self.old.pending.items) }
         ensures count { OnOk result (self.new.count ≡ self.old.count + 1) }
+        ensures pending { self.new.pending ≡ self.old.pending }
         ensures recording { self.new.recording ≡ self.old.recording }
         ensures tally { self.new.tally ≡ self.old.tally }
     {
@@ -410,7 +411,6 @@ impl Running {
         };
         // (so many events would take centuries)
         self.count = self.count.checked_add(1).ok_or(AllocError)?;
-        let _object = follow(&mut self.pending, &event)?;
         Ok(event)
     }
 
@@ -444,8 +444,9 @@ impl Running {
     {
         let n = number_in(alloc, &mut self.recording, verb, rest)?;
         let index = index_of(&self.recording, object);
-        let action = Action::Invoke(index, op_of_word(verb, object, n));
-        let event = self.event(worker, action)?;
+        let op = op_of_word(verb, object, n);
+        let event = self.event(worker, Action::Invoke(index, op))?;
+        self.pending.push(PendingCall::new(event, index, op))?;
         self.count(worker, verb, object);
         Ok(event)
     }
@@ -485,18 +486,22 @@ impl Running {
         &mut self,
         alloc: Global,
         worker: WorkerId,
+        place: usize,
         call: &PendingCall,
         answer: ReplyWord,
         list: &[u8],
     ) -> Result<Event, AllocError>
         requires pending { pending_by self.old worker ≡ Some call.now }
+        requires place { IsPendingOf self.old.pending.items worker place }
         requires none { suit_fault self.old.recording.heading call.now answer (words_of list.now)
             ≡ None }
         ensures { IfOk result (λ x. Answers self.old self.new (Ok x)
             (Ok (response self.old worker call.now answer (words_of list.now)))) }
     {
         let reply = reply_of_word(alloc, &mut self.recording, call, answer, list)?;
-        self.event(worker, Action::Respond(reply))
+        let event = self.event(worker, Action::Respond(reply))?;
+        self.pending.remove(place);
+        Ok(event)
     }
 
     /// Judges a response, and returns its event.
@@ -515,21 +520,17 @@ impl Running {
             return Err(LineFault::Of(FaultKind::BadNumber));
         }
         let idle = LineFault::Of(FaultKind::Idle);
-        let call = self.pending_call(worker).ok_or(idle)?;
+        let (place, call) = self.pending_call(worker).ok_or(idle)?;
         if let Some(kind) = suit_fault(self.recording.heading(), &call, answer, list) {
             return Err(LineFault::Of(kind));
         }
-        Ok(self.respond(alloc, worker, &call, answer, list)?)
+        Ok(self.respond(alloc, worker, place, &call, answer, list)?)
     }
 
     /// Reads the line of an event, given without its LF, and returns the event.
-    #[tactic(auto, unfolding(crate::specs::kept::Judging::event_by))]
     pub(crate) fn line(&mut self, alloc: Global, line: &[u8]) -> Result<Event, LineFault>
         ensures { Answers self.old self.new result (event_by self.old line.now) }
     {
-        if line.len() > LINE_MAX || has_blank(line) {
-            return Err(LineFault::Of(FaultKind::BadLine));
-        }
         match split_event(line).ok_or(LineFault::Of(FaultKind::BadLine))? {
             Parts::Calls {
                 worker,

@@ -65,6 +65,7 @@ impl Stage {
     }
 
     /// Reads a line, given without its LF, and stores the event if it is one.
+    #[inline(always)]
     pub(crate) fn take(&mut self, alloc: Global, line: &[u8]) -> Result<(), LineFault>
         requires { IsSound self.old }
         ensures { Takes result (step (stage_with_all self.old) line.now) self.new }

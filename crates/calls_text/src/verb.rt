@@ -3,6 +3,8 @@ ghost use Rattle.std.specs.Prelude.{◌≡◌};
 ghost use Rattle.calls_text.specs.Verbs.{object_verb_of, group_verb_of, parse_op_word, tail_of};
 ghost use Rattle.calls_text.specs.Verbs.{is_update};
 
+use crate::literal::is_text;
+
 /// The operation of a call.
 #[derive(Clone, Copy, Debug, PartialEq, Eq)]
 pub(crate) enum OpWord {
@@ -37,22 +39,22 @@ pub(crate) enum Tail {
 fn object_verb_of(word: &[u8]) -> Option<OpWord>
     ensures { result ≡ object_verb_of word.now }
 {
-    if word == b"advance".as_slice() {
+    if is_text(word, b"advance".as_slice()) {
         return Some(OpWord::Advance);
     }
-    if word == b"read".as_slice() {
+    if is_text(word, b"read".as_slice()) {
         return Some(OpWord::Read);
     }
-    if word == b"await".as_slice() {
+    if is_text(word, b"await".as_slice()) {
         return Some(OpWord::Await);
     }
-    if word == b"ticket".as_slice() {
+    if is_text(word, b"ticket".as_slice()) {
         return Some(OpWord::Ticket);
     }
-    if word == b"put".as_slice() {
+    if is_text(word, b"put".as_slice()) {
         return Some(OpWord::Put);
     }
-    if word == b"get".as_slice() {
+    if is_text(word, b"get".as_slice()) {
         return Some(OpWord::Get);
     }
     None
@@ -62,25 +64,25 @@ fn object_verb_of(word: &[u8]) -> Option<OpWord>
 fn group_verb_of(word: &[u8]) -> Option<OpWord>
     ensures { result ≡ group_verb_of word.now }
 {
-    if word == b"p".as_slice() {
+    if is_text(word, b"p".as_slice()) {
         return Some(OpWord::P);
     }
-    if word == b"v".as_slice() {
+    if is_text(word, b"v".as_slice()) {
         return Some(OpWord::V);
     }
-    if word == b"pboth".as_slice() {
+    if is_text(word, b"pboth".as_slice()) {
         return Some(OpWord::PBoth);
     }
-    if word == b"write".as_slice() {
+    if is_text(word, b"write".as_slice()) {
         return Some(OpWord::Write);
     }
-    if word == b"snapshot".as_slice() {
+    if is_text(word, b"snapshot".as_slice()) {
         return Some(OpWord::Snapshot);
     }
-    if word == b"produce".as_slice() {
+    if is_text(word, b"produce".as_slice()) {
         return Some(OpWord::Produce);
     }
-    if word == b"consume".as_slice() {
+    if is_text(word, b"consume".as_slice()) {
         return Some(OpWord::Consume);
     }
     None

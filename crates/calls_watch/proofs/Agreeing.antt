@@ -4,15 +4,14 @@ use Rattle.std.proofs.Common.{reverse, Ok, ap, sym, ◌∙◌, subst, arith}
 use Rattle.std.proofs.lemmas.List.{reverse-append}
 use Rattle.ec_text.specs.Puts.{OutputModel}
 use Rattle.ec_heading.specs.HeadingModel.{HeadingModel}
+use Rattle.ec_heading.specs.Spelling.{lines_text}
 use Rattle.calls_core.specs.declared.history.Kind.{Kind}
 use Rattle.calls_core.specs.declared.history.Kind.TheVariants.{Eventcount, Sequencer, Semaphores}
 use Rattle.calls_core.specs.declared.history.Kind.TheVariants.{Cell, Database, Buffer}
 use Rattle.calls_core.specs.declared.history.Event.{Event}
 use Rattle.calls_core.specs.declared.history.Placed.{Placed}
 use Rattle.calls_core.specs.Histories.{clock, part, IsHistory, IsHistoryOf}
-use Rattle.calls_core.specs.Histories.{completed_calls, pending_calls}
-use Rattle.calls_core.specs.Linearizations.{IsRun, start, IsAnsweredLinearization}
-use Rattle.calls_core.specs.Points.{IsPlacedOrder, calls_of}
+use Rattle.calls_core.specs.Linearizations.{IsAnsweredLinearization}
 use Rattle.calls_core.specs.Beginnings.{until}
 use Rattle.calls_core.specs.Completions.{IsLinearizable}
 use Rattle.calls_core.proofs.Beginnings.{history_earlier}
@@ -29,7 +28,7 @@ use Rattle.calls_verdict.specs.Faults.{ShowsUndecided, IsDecided}
 use Rattle.calls_verdict.specs.Verdicts.{AreDecided, IsNotDecided, IsFirstRefusal, IsCleanBefore}
 use Rattle.calls_verdict.proofs.Alternatives.{a_refusal_is_final}
 use Rattle.calls_verdict.proofs.OneFault.{until_past as until_end, ends_later, the_first_fault_is_one}
-use Rattle.calls_verdict.proofs.Untils.{until_all, until_out}
+use Rattle.calls_verdict.proofs.Untils.{until_all}
 use Rattle.calls_monitor.specs.declared.monitor.Refused.{Refused as Report}
 use Rattle.calls_text.specs.Recordings.{RecordingModel, AreKinds, IsRecording}
 use Rattle.calls_text.specs.Reading.{Opening, Running}
@@ -42,12 +41,15 @@ use Rattle.calls_report.specs.declared.status.Status.TheVariants.{InputOutput, M
 use Rattle.calls_report.specs.Checks.{Outputs, JudgedHistory, AreJudged, IsJudged, HasOrder}
 use Rattle.calls_report.specs.Checks.{IsUndecided, IsUnread, IsNoEnd, SaysUnread, SaysRefused, SaysOpen}
 use Rattle.calls_report.specs.Checks as checks
-use Rattle.calls_watch.specs.Watches.{AreWatched, IsGood, AreGood, IsUpTo, IsStopped, IsWatchedTo}
-use Rattle.calls_watch.specs.Watches.{SaysStopped}
+use Rattle.calls_report.specs.declared.checking.TheConstants.{TEXT_MAX}
+use Rattle.calls_watch.specs.Watches.{AreWatched, CallsCells, IsGood, AreGood, IsUpTo, IsStopped}
+use Rattle.calls_watch.specs.Watches.{IsWatchedTo, Rejects, SaysTooLarge}
 use Rattle.calls_watch.specs.Watches as watches
-use Rattle.calls_watch.specs.Laws.{Agree, WatchAgreesWithCheck, BothRefuseOneEvent}
+use Rattle.calls_watch.specs.Laws.{AreRead, CallsCellsIn, Agree, WatchAgreesWithCheck, BothRefuseOneEvent}
 use Rattle.calls_report.proofs.JudgingLemmas.{goes_past}
 use Rattle.calls_watch.proofs.LineLemmas.{one_part}
+use Rattle.calls_watch.proofs.TextLemmas.{ordered, good_by_order}
+use Rattle.calls_watch.proofs.Called.{whole_has_cells, lines_within}
 use Rattle.calls_watch.proofs.SameKinds.{all_alike, linearizable_alike, AllAlike}
 use Rattle.calls_watch.proofs.Uncalled.{part_watched, uncalled, cell_begins}
 use Rattle.calls_watch.proofs.Uncalled.{database_begins, buffer_begins, uncalled_order}
@@ -166,13 +168,14 @@ are_decided ks past h w = λ k kind is.
     is_decided kind (part k past) ((a_part_is_a_history ks k past h).4 kind is)
     (part_watched k past w)
 
-good_not_open : (r : RecordingModel) → IsGood r → (u : Undecided) → IsUndecided r u → ⊥
-good_not_open r g u open_one =
-    let shown = open_one.2.shows in
+-- a history that is not decided calls a cell, a database or a buffer
+open_calls : (r : RecordingModel) (u : Undecided) → IsUndecided r u → CallsCells r
+open_calls r u open_one = λ watched.
+    (let shown = open_one.2.shows in
     let past : List Event = reverse r.events in
     kind_decided shown.kind (part u.object past) u.cause
     ((a_part_is_a_history open_one.0 u.object past open_one.1.history).4 shown.kind shown.is)
-    (part_watched u.object past g.watched) shown.shows
+    (part_watched u.object past watched) shown.shows)
 
 -- HISTORIES THAT ARE REJECTED
 
@@ -255,16 +258,6 @@ module _ (n : ℕ) (ps : List (List ℕ)) (m : ℕ) (r : RecordingModel) (x : Ev
       let late = answers_become_responses ks past order.0 begun own in
       none_with_x (late.0, late.1)
 
--- an order of all calls is a linearization
-ordered : (ks : List Kind) (r : RecordingModel) (order : List Placed) → IsRecording r ks
-    → IsPlacedOrder (IsRun (start ks)) (completed_calls (reverse r.events))
-    (pending_calls (reverse r.events)) (clock (reverse r.events)) order
-    → IsLinearizable ks (reverse r.events)
-ordered ks r order recording placed =
-    let late = answers_become_responses ks (reverse r.events) (calls_of order) recording.history
-    placed.legal in
-    (late.0, late.1)
-
 stopped_no_order : (n : ℕ) (ps : List (List ℕ)) (m : ℕ) (r : RecordingModel) (x : Event)
     (report : Report) → IsStopped n ps m r x report → (j : JudgedHistory)
     → parse_from n Opening ps ≡ Ok j.read → HasOrder j.read.recorded j.order → ⊥
@@ -278,6 +271,48 @@ stopped_some n ps m r x report stop one =
     let u = stop.up_to in
     let same : Opening ≡ Running r = (one_part n ps (Running r) m u.next u.left u.reached one).0 in
     cc
+
+-- CALLS OF CELLS, DATABASES AND BUFFERS
+
+-- a history that is not decided
+open_in : (text : List ℕ) (reads : List OneRead) (m : ℕ) (qs : List (List ℕ)) (o : OneRead)
+    (u : Undecided) → AreRead 1 (lines_of_text text) reads m qs → parse_from m Opening qs ≡ Ok o
+    → IsUndecided o.recorded u → CallsCellsIn text
+open_in text reads m qs o u are is open_one = record {
+  reads = reads;
+  number = m;
+  rest = qs;
+  are = are;
+  cells = whole_has_cells text reads m qs o are is (open_calls o.recorded u open_one);
+}
+
+-- one that is too large
+large_in : (text : List ℕ) (reads : List OneRead) (m : ℕ) (qs : List (List ℕ))
+    (old new : OutputModel) → AreRead 1 (lines_of_text text) reads m qs
+    → SaysTooLarge m qs old new → CallsCellsIn text × (TEXT_MAX < length text)
+large_in text reads m qs old new are large = (
+  record { reads = reads; number = m; rest = qs; are = are; cells = large.0 },
+  (let within : length (lines_text large.0.reached.lines) ≤ length text =
+      lines_within text reads m qs large.0.stage large.0.number large.0.next large.0.left are
+      large.0.reached in
+      omega (arith, within, large.1)),
+)
+
+good_are_read : (n : ℕ) (ps : List (List ℕ)) (reads : List OneRead) (m : ℕ) (qs : List (List ℕ))
+    → AreGood n ps reads m qs → AreRead n ps reads m qs
+good_are_read n ps [] m qs good = good
+good_are_read n ps (r ∷ reads) m qs good =
+    (good.0, good_are_read r.number r.rest reads m qs good.2)
+
+abbrev reads_of : List JudgedHistory → List OneRead
+reads_of [] = []
+reads_of (j ∷ js) = j.read ∷ reads_of js
+
+judged_read : (n : ℕ) (ps : List (List ℕ)) (js : List JudgedHistory) (m : ℕ) (qs : List (List ℕ))
+    → AreJudged n ps js m qs → AreRead n ps (reads_of js) m qs
+judged_read n ps [] m qs judged = judged
+judged_read n ps (j ∷ js) m qs judged =
+    (judged.0, judged_read j.read.number j.read.rest js m qs judged.2)
 
 -- BOTH
 
@@ -319,73 +354,82 @@ done_refused m qs k rs b a past none (inr (inr g)) (inl u) = fault_none k rs u.0
 done_refused m qs k rs b a past none (inr (inr g)) (inr s) =
     good_not_refused s.0.recorded (good_read k rs g.0 s.0 g.1 s.2 g.2) s.1 s.3
 
-done_open : (m : ℕ) (qs : List (List ℕ)) (k : ℕ) (rs : List (List ℕ)) (b a : OutputModel)
-    → qs ≡ [] ∷ [] → Meets m qs k rs → SaysOpen k rs b a → ⊥
-done_open m qs k rs b a none (inl (e, f)) s = over_none k rs s.0 (sym f ∙ none) s.2
-done_open m qs k rs b a none (inr (inl j)) s = over_none m qs j.0.read none j.1
-done_open m qs k rs b a none (inr (inr g)) s =
-    good_not_open s.0.recorded (good_read k rs g.0 s.0 g.1 s.2 g.2) s.1 s.3
+ordered_not_refused : (r : RecordingModel) (order : List Placed) (x : Refusal) → HasOrder r order
+    → checks.IsRefused r x → ⊥
+ordered_not_refused r order x has refused = good_not_refused r (good_by_order r order has) x refused
 
+-- a history that both have read
+read_once : (m : ℕ) (qs : List (List ℕ)) (j : JudgedHistory) (o : OneRead) (x : Refusal)
+    → parse_from m Opening qs ≡ Ok j.read → HasOrder j.read.recorded j.order
+    → parse_from m Opening qs ≡ Ok o → checks.IsRefused o.recorded x → ⊥
+read_once m qs j o x one has other refused =
+    ordered_not_refused j.read.recorded j.order x has
+    (subst (λ (k : OneRead). checks.IsRefused k.recorded x) (one_read o j.read (sym other ∙ one))
+    refused)
+
+-- `watch` rejects a text, and `check` does not: then it is too large
 refused_done : (m : ℕ) (qs : List (List ℕ)) (k : ℕ) (rs : List (List ℕ)) (old new : OutputModel)
-    → 1 < k → rs ≡ [] ∷ [] → Meets m qs k rs → SaysUnread m qs old new ⊎ SaysStopped m qs old new
-    → ⊥
+    → 1 < k → rs ≡ [] ∷ [] → Meets m qs k rs → Rejects m qs old new → SaysTooLarge m qs old new
+refused_done m qs k rs old new past none at (inr (inr (inr large))) = large
 refused_done m qs k rs old new past none (inl (e, f)) (inl u) =
-    u.2 (subst (λ (i : ℕ). 1 < i) (sym e) past) (f ∙ none)
-refused_done m qs k rs old new past none (inl (e, f)) (inr s) =
-    stopped_some m qs s.0 s.1 s.2 s.3 s.4 (f ∙ none)
-refused_done m qs k rs old new past none (inr (inl j)) (inl u) = fault_none m qs u.0 j.0.read u.1 j.1
-refused_done m qs k rs old new past none (inr (inl j)) (inr s) =
-    stopped_no_order m qs s.0 s.1 s.2 s.3 s.4 j.0 j.1 j.2
-refused_done m qs k rs old new past none (inr (inr g)) found = over_none k rs g.0 none g.1
+    absurd (u.2 (subst (λ (i : ℕ). 1 < i) (sym e) past) (f ∙ none))
+refused_done m qs k rs old new past none (inl (e, f)) (inr (inl s)) =
+    absurd (stopped_some m qs s.0 s.1 s.2 s.3 s.4 (f ∙ none))
+refused_done m qs k rs old new past none (inl (e, f)) (inr (inr (inl s))) =
+    absurd (over_none m qs s.0.0 (f ∙ none) s.0.2)
+refused_done m qs k rs old new past none (inr (inl j)) (inl u) =
+    absurd (fault_none m qs u.0 j.0.read u.1 j.1)
+refused_done m qs k rs old new past none (inr (inl j)) (inr (inl s)) =
+    absurd (stopped_no_order m qs s.0 s.1 s.2 s.3 s.4 j.0 j.1 j.2)
+refused_done m qs k rs old new past none (inr (inl j)) (inr (inr (inl s))) =
+    absurd (read_once m qs j.0 s.0.0 s.0.1 j.1 j.2 s.0.2 s.0.3)
+refused_done m qs k rs old new past none (inr (inr g)) found =
+    absurd (over_none k rs g.0 none g.1)
 
-refused_open : (m : ℕ) (qs : List (List ℕ)) (k : ℕ) (rs : List (List ℕ)) (old new b a : OutputModel)
-    → Meets m qs k rs → SaysUnread m qs old new ⊎ SaysStopped m qs old new → SaysOpen k rs b a → ⊥
-refused_open m qs k rs old new b a (inl (e, f)) (inl u) s =
-    fault_none m qs u.0 s.0 u.1 (moved m k qs rs s.0 e f s.2)
-refused_open m qs k rs old new b a (inl (e, f)) (inr t) s =
-    not_open m qs t.0 t.1 t.2 t.3 t.4 s.0 (moved m k qs rs s.0 e f s.2) s.3.0 s.3.1 s.1 s.3.2
-refused_open m qs k rs old new b a (inr (inl j)) (inl u) s = fault_none m qs u.0 j.0.read u.1 j.1
-refused_open m qs k rs old new b a (inr (inl j)) (inr t) s =
-    stopped_no_order m qs t.0 t.1 t.2 t.3 t.4 j.0 j.1 j.2
-refused_open m qs k rs old new b a (inr (inr g)) found s =
-    good_not_open s.0.recorded (good_read k rs g.0 s.0 g.1 s.2 g.2) s.1 s.3
-
-agree : (ps : List (List ℕ)) (watched checked : Status) (reads : List OneRead) (m : ℕ)
-    (qs : List (List ℕ)) (k : ℕ) (rs : List (List ℕ)) (old new : Outputs) (b a : OutputModel)
-    → AreGood 1 ps reads m qs → Meets m qs k rs → watches.Ends watched reads m qs old new
-    → checks.Ends checked k rs b a → Agree watched checked
-agree ps Done Done reads m qs k rs old new b a good at w c = tt
-agree ps Done Memory reads m qs k rs old new b a good at w c = tt
-agree ps Done Refused reads m qs k rs old new b a good at w c =
-    done_refused m qs k rs b a (some_read ps reads m qs good w.0) w.1 at c
-agree ps Done NotDecided reads m qs k rs old new b a good at w c =
-    done_open m qs k rs b a w.1 at c
-agree ps Done Usage reads m qs k rs old new b a good at w c = c
-agree ps Done InputOutput reads m qs k rs old new b a good at w c = c
-agree ps InputOutput Done reads m qs k rs old new b a good at w c = tt
-agree ps InputOutput Memory reads m qs k rs old new b a good at w c = tt
-agree ps InputOutput Refused reads m qs k rs old new b a good at w c =
-    done_refused m qs k rs b a (some_read ps reads m qs good w.0) w.1 at c
-agree ps InputOutput NotDecided reads m qs k rs old new b a good at w c =
-    done_open m qs k rs b a w.1 at c
-agree ps InputOutput Usage reads m qs k rs old new b a good at w c = c
-agree ps InputOutput InputOutput reads m qs k rs old new b a good at w c = c
-agree ps Refused Refused reads m qs k rs old new b a good at w c = tt
-agree ps Refused Memory reads m qs k rs old new b a good at w c = tt
-agree ps Refused Done reads m qs k rs old new b a good at w c =
-    refused_done m qs k rs old.notes new.notes c.0 c.1 at w.1
-agree ps Refused NotDecided reads m qs k rs old new b a good at w c =
-    refused_open m qs k rs old.notes new.notes b a at w.1 c
-agree ps Refused Usage reads m qs k rs old new b a good at w c = c
-agree ps Refused InputOutput reads m qs k rs old new b a good at w c = c
-agree ps NotDecided checked reads m qs k rs old new b a good at w c = tt
-agree ps Memory checked reads m qs k rs old new b a good at w c = tt
-agree ps Usage checked reads m qs k rs old new b a good at w c = absurd w
+agree : (text : List ℕ) (watched checked : Status) (reads : List OneRead) (m : ℕ)
+    (qs : List (List ℕ)) (judged : List JudgedHistory) (k : ℕ) (rs : List (List ℕ))
+    (old new : Outputs) (b a : OutputModel) → AreGood 1 (lines_of_text text) reads m qs
+    → AreJudged 1 (lines_of_text text) judged k rs → Meets m qs k rs
+    → watches.Ends watched reads m qs old new → checks.Ends checked k rs b a
+    → Agree text watched checked
+agree text Done Done reads m qs js k rs old new b a good judged at w c = tt
+agree text Done Memory reads m qs js k rs old new b a good judged at w c = tt
+agree text Done Refused reads m qs js k rs old new b a good judged at w c =
+    done_refused m qs k rs b a (some_read (lines_of_text text) reads m qs good w.0) w.1 at c
+agree text Done NotDecided reads m qs js k rs old new b a good judged at w c =
+    open_in text (reads_of js) k rs c.0 c.1 (judged_read 1 (lines_of_text text) js k rs judged) c.2
+    c.3
+agree text Done Usage reads m qs js k rs old new b a good judged at w c = c
+agree text Done InputOutput reads m qs js k rs old new b a good judged at w c = c
+agree text InputOutput Done reads m qs js k rs old new b a good judged at w c = tt
+agree text InputOutput Memory reads m qs js k rs old new b a good judged at w c = tt
+agree text InputOutput Refused reads m qs js k rs old new b a good judged at w c =
+    done_refused m qs k rs b a (some_read (lines_of_text text) reads m qs good w.0) w.1 at c
+agree text InputOutput NotDecided reads m qs js k rs old new b a good judged at w c =
+    open_in text (reads_of js) k rs c.0 c.1 (judged_read 1 (lines_of_text text) js k rs judged) c.2
+    c.3
+agree text InputOutput Usage reads m qs js k rs old new b a good judged at w c = c
+agree text InputOutput InputOutput reads m qs js k rs old new b a good judged at w c = c
+agree text Refused Refused reads m qs js k rs old new b a good judged at w c = tt
+agree text Refused Memory reads m qs js k rs old new b a good judged at w c = tt
+agree text Refused Done reads m qs js k rs old new b a good judged at w c =
+    large_in text reads m qs old.notes new.notes (good_are_read 1 (lines_of_text text) reads m qs good)
+    (refused_done m qs k rs old.notes new.notes c.0 c.1 at w.1)
+agree text Refused NotDecided reads m qs js k rs old new b a good judged at w c =
+    open_in text (reads_of js) k rs c.0 c.1 (judged_read 1 (lines_of_text text) js k rs judged) c.2
+    c.3
+agree text Refused Usage reads m qs js k rs old new b a good judged at w c = c
+agree text Refused InputOutput reads m qs js k rs old new b a good judged at w c = c
+agree text NotDecided checked reads m qs js k rs old new b a good judged at w c =
+    open_in text reads m qs w.1.0 w.1.1 (good_are_read 1 (lines_of_text text) reads m qs good) w.1.2
+    w.1.3
+agree text Memory checked reads m qs js k rs old new b a good judged at w c = tt
+agree text Usage checked reads m qs js k rs old new b a good judged at w c = absurd w
 
 pub watch_agrees_with_check : WatchAgreesWithCheck
 watch_agrees_with_check = λ text watched checked old new judged before after w c.
-    agree (lines_of_text text) watched checked w.reads w.number w.rest c.number c.rest old new c.remarked
-    after w.good
+    agree text watched checked w.reads w.number w.rest judged c.number c.rest old new c.remarked
+    after w.good c.judged_are
     (meets 1 (lines_of_text text) w.reads w.number w.rest judged c.number c.rest w.good c.judged_are)
     w.ends c.ends
 

@@ -4,6 +4,8 @@ use Rattle.std.proofs.Common.{Result, Ok, Err, inl, inr, IfSome, ap, ◌∙◌, 
 use Rattle.std.specs.Io.KnownBytes.{Appends, Consumes, IsAtEnd}
 use Rattle.ec_text.specs.Puts.{OutputModel, Puts, AppendsPrefix}
 use Rattle.calls_core.specs.declared.history.Event.{Event}
+use Rattle.calls_verdict.specs.declared.verdict.Verdict.{Verdict}
+use Rattle.calls_verdict.specs.declared.verdict.Verdict.TheVariants as verdicts
 use Rattle.calls_monitor.specs.declared.monitor.Refused.{Refused as Report}
 use Rattle.calls_text.specs.Recordings.{RecordingModel}
 use Rattle.calls_text.specs.Reading.{Running}
@@ -21,12 +23,13 @@ use Rattle.calls_watch.specs.declared.load.Load.{Load}
 use Rattle.calls_watch.specs.declared.stop.Stop.{Stop}
 use Rattle.calls_watch.specs.declared.stop.Stop.TheVariants as stops
 use Rattle.calls_watch.specs.declared.watcher.Watcher.{Watcher}
+use Rattle.calls_watch.specs.declared.whole.DecidedHistory.{DecidedHistory}
 use Rattle.calls_watch.specs.declared.watching.EarlyEnd.{EarlyEnd}
 use Rattle.calls_watch.specs.declared.watching.EarlyEnd.TheVariants as cuts
 use Rattle.calls_watch.specs.Loads.{IsLoad, load_text, summary_of, calls_in, others_in}
-use Rattle.calls_watch.specs.Watches.{Watches, refused_note, unwatched_note}
+use Rattle.calls_watch.specs.Watches.{Watches, refused_note}
 use Rattle.calls_watch.specs.kept.Watching.{IsFed, EndsAs, FedFrom, Stops, IsOver}
-use Rattle.calls_watch.specs.kept.Endings.{ReadsAll, WritesLoad, SaysStop, SaysRefused}
+use Rattle.calls_watch.specs.kept.Endings.{ReadsAll, WritesLoad, SaysStop, SaysNote, SaysVerdict}
 use Rattle.calls_report.specs.kept.Judging.{fault_status}
 use Rattle.calls_watch.proofs.PieceLemmas.{FedBy}
 
@@ -167,6 +170,12 @@ stop_known None f stop status old new same reads says = tt
 stop_known (Some bytes) f stop status old new same reads says =
     stopped bytes status old new same (says (lines_of_text bytes) reads)
 
+pub read_fault : (o : Option (List ℕ)) (old new : Outputs) → new.out ≡ old.out
+    → Puts old.notes new.notes (codes "read fault\n")
+    → IfSome o (λ bytes. Watches bytes InputOutput old new)
+read_fault None old new same puts = tt
+read_fault (Some bytes) old new same puts = inr (same, puts)
+
 -- NOTES
 
 pub unread_says : (ps : List (List ℕ)) (w : Watcher) (fault : TextFault) (old new : OutputModel)
@@ -200,14 +209,14 @@ unread_says ps w faults.Memory old new s puts = record {
 
 refused_by : (ps : List (List ℕ)) (w : Watcher) (x : Event) (report : Report) (status : Status)
     (old new : OutputModel) (s : Stops (stops.Refused x report) ps w)
-    → SaysRefused status (refused_note w.number s.stops.0 x report) old new
+    → SaysNote status (refused_note w.number s.stops.0 x report) old new
     → SaysStop ps status old new
 refused_by ps w x report Refused old new s puts = record {
   reads = s.reads;
   start = s.start;
   begun = s.begun;
   good = s.good;
-  says = inr (w.number, s.stops.0, x, report, s.stops.3, puts);
+  says = inr (inl (w.number, s.stops.0, x, report, s.stops.3, puts));
 }
 refused_by ps w x report Done old new s puts = absurd puts
 refused_by ps w x report Usage old new s puts = absurd puts
@@ -218,7 +227,118 @@ refused_by ps w x report NotDecided old new s puts = absurd puts
 pub refused_says : (ps : List (List ℕ)) (w : Watcher) (x : Event) (report : Report)
     (status : Status) (old new : OutputModel)
     → ((events : List Event) (r : RecordingModel) → stage_with_events events w.follower ≡ Running r
-    → SaysRefused status (refused_note w.number r x report) old new)
+    → SaysNote status (refused_note w.number r x report) old new)
     → Stops (stops.Refused x report) ps w → SaysStop ps status old new
 refused_says ps w x report status old new says s =
     refused_by ps w x report status old new s (says s.stops.1 s.stops.0 s.stops.2)
+
+-- a history that was decided at its end
+module _ (ps : List (List ℕ)) (w : Watcher) where
+  refused_at_end : (status : Status) (old new : OutputModel) (s : Stops stops.RefusedAtEnd ps w)
+      → SaysVerdict (verdicts.Refused s.stops.1) s.stops.0.decided.read.number
+      s.stops.0.decided.read.recording status old new → SaysStop ps status old new
+  refused_at_end Refused old new s says = record {
+    reads = s.reads;
+    start = s.start;
+    begun = s.begun;
+    good = s.good;
+    says = inr (inr (inl (
+      (
+        record {
+          recorded = s.stops.0.decided.read.recording;
+          number = s.stops.0.decided.read.number;
+          rest = s.stops.0.rest;
+        },
+        s.stops.1,
+        s.stops.0.reads,
+        s.stops.3,
+        says,
+      ),
+      s.stops.0.cells,
+    )));
+  }
+  refused_at_end Memory old new s says = record {
+    reads = s.reads;
+    start = s.start;
+    begun = s.begun;
+    good = s.good;
+    says = says;
+  }
+  refused_at_end Done old new s says = absurd says
+  refused_at_end Usage old new s says = absurd says
+  refused_at_end InputOutput old new s says = absurd says
+  refused_at_end NotDecided old new s says = absurd says
+
+  open_at_end : (status : Status) (old new : OutputModel) (s : Stops stops.NotDecided ps w)
+      → SaysVerdict (verdicts.NotDecided s.stops.1) s.stops.0.decided.read.number
+      s.stops.0.decided.read.recording status old new → SaysStop ps status old new
+  open_at_end NotDecided old new s says = record {
+    reads = s.reads;
+    start = s.start;
+    begun = s.begun;
+    good = s.good;
+    says = (
+      record {
+        recorded = s.stops.0.decided.read.recording;
+        number = s.stops.0.decided.read.number;
+        rest = s.stops.0.rest;
+      },
+      s.stops.1,
+      s.stops.0.reads,
+      s.stops.3,
+      says,
+    );
+  }
+  open_at_end Memory old new s says = record {
+    reads = s.reads;
+    start = s.start;
+    begun = s.begun;
+    good = s.good;
+    says = says;
+  }
+  open_at_end Done old new s says = absurd says
+  open_at_end Usage old new s says = absurd says
+  open_at_end InputOutput old new s says = absurd says
+  open_at_end Refused old new s says = absurd says
+
+  -- what is said of the history that was decided
+  abbrev pub SaysOfDecided : Status → OutputModel → OutputModel → Type 0
+  SaysOfDecided status old new =
+      (history : DecidedHistory) → w.decided ≡ Some history
+      → SaysVerdict history.verdict history.read.number history.read.recording status old new
+
+  pub refused_end_says : (status : Status) (old new : OutputModel) → SaysOfDecided status old new
+      → Stops stops.RefusedAtEnd ps w → SaysStop ps status old new
+  refused_end_says status old new says s =
+      refused_at_end status old new s
+      (subst (λ (v : Verdict). SaysVerdict v s.stops.0.decided.read.number
+      s.stops.0.decided.read.recording status old new) s.stops.2
+      (says s.stops.0.decided s.stops.0.is))
+
+  pub open_end_says : (status : Status) (old new : OutputModel) → SaysOfDecided status old new
+      → Stops stops.NotDecided ps w → SaysStop ps status old new
+  open_end_says status old new says s =
+      open_at_end status old new s
+      (subst (λ (v : Verdict). SaysVerdict v s.stops.0.decided.read.number
+      s.stops.0.decided.read.recording status old new) s.stops.2
+      (says s.stops.0.decided s.stops.0.is))
+
+  pub too_large_says : (old new : OutputModel) → Puts old new (codes "too large\n")
+      → Stops stops.TooLarge ps w → SaysStop ps Refused old new
+  too_large_says old new puts s = record {
+    reads = s.reads;
+    start = s.start;
+    begun = s.begun;
+    good = s.good;
+    says = inr (inr (inr (s.stops.0, s.stops.1, puts)));
+  }
+
+  pub memory_says : (stop : Stop) (old new : OutputModel) → Puts old new (codes "no memory\n")
+      → Stops stop ps w → SaysStop ps Memory old new
+  memory_says stop old new puts s = record {
+    reads = s.reads;
+    start = s.start;
+    begun = s.begun;
+    good = s.good;
+    says = puts;
+  }

@@ -1,12 +1,15 @@
 -- The state of `watch` after a line.
-use Rattle.std.proofs.Common.{◌≡◌, ◌<◌, ◌≤◌, inl, inr, ℕ, ◌+◌, true, false, List, [], ◌∷◌, ◌++◌, length}
+use Rattle.std.proofs.Common.{◌≡◌, ◌<◌, ◌≤◌, ◌⊎◌, inl, inr, ℕ, ◌+◌, Bool, true, false, List, [], ◌∷◌, ◌++◌, length}
 use Rattle.std.proofs.Common.{reverse, Option, Some, None, Result, Ok, Err, refl, ap, sym, ◌∙◌, subst, arith}
-use Rattle.std.proofs.Common.{length-append}
+use Rattle.std.proofs.Common.{length-append, append_assoc, if◌then◌else◌}
 use Rattle.std.proofs.lemmas.List.{reverse-append}
 use Rattle.ec_heading.specs.HeadingModel.{HeadingModel}
+use Rattle.calls_core.specs.declared.history.Kind.{Kind}
 use Rattle.calls_core.specs.declared.history.Event.{Event}
 use Rattle.calls_core.specs.Histories.{IsHistory, clock, pending_calls}
 use Rattle.calls_core.specs.Completions.{IsLinearizable}
+use Rattle.calls_verdict.specs.declared.verdict.Verdict.{Verdict}
+use Rattle.calls_verdict.specs.declared.verdict.Verdict.TheVariants as verdicts
 use Rattle.calls_monitor.specs.declared.monitor.Monitor.{Monitor}
 use Rattle.calls_monitor.specs.declared.monitor.Refused.{Refused as Report}
 use Rattle.calls_monitor.specs.declared.monitor.Rejection.TheVariants as rejections
@@ -24,22 +27,26 @@ use Rattle.std.specs.Prelude.{OnOk, IfErr}
 use Rattle.calls_text.specs.Outcomes.{OneRead, parse_from, parse_end, fault_in, ReturnsFault}
 use Rattle.calls_text.specs.Following.{stage_with_events, HasEvents, IsReached, IsHeading, IsRunLine, IsEvent, IsEnd}
 use Rattle.calls_text.specs.Following.{PassesIn, IsFaulty}
-use Rattle.calls_text.proofs.ReachedLines.{reached_none, reached_more, reached_end, reached_cut}
+use Rattle.calls_text.proofs.ReachedLines.{reached_end, reached_cut}
 use Rattle.calls_text.proofs.ReachedLines.{reached_fault, reached_opening, opening_none}
 use Rattle.calls_text.specs.kept.Leading.{Leads}
 use Rattle.calls_report.specs.Checks.{IsNoEnd}
+use Rattle.calls_watch.specs.declared.kept.Kept.TheVariants.{TooLong}
 use Rattle.calls_watch.specs.declared.load.Load.{Load}
 use Rattle.calls_watch.specs.declared.stop.Stop.{Stop}
 use Rattle.calls_watch.specs.declared.stop.Stop.TheVariants as stops
 use Rattle.calls_watch.specs.declared.watcher.Watcher.{Watcher}
 use Rattle.calls_watch.specs.Loads.{IsLoad, calls_of, others_of, others_at}
 use Rattle.calls_watch.specs.Loads.{invocation_count}
-use Rattle.calls_watch.specs.Watches.{IsGood, AreGood, IsUpTo}
+use Rattle.calls_watch.specs.Watches.{IsGood, AreGood, IsUpTo, IsReadAt, CallsCells}
 use Rattle.calls_watch.specs.Watches.{invokes_cells, AreWatched}
-use Rattle.calls_watch.specs.kept.Watching.{IsMonitoring, IsMonitored, IsWatching, StopsAt, Stops, StateAfterLine}
-use Rattle.calls_watch.specs.kept.Watching.{IsOver, IsOpened, IsLoadAfter, Begins, LoadGrows}
-use Rattle.calls_watch.specs.kept.Watching.{IsJudged, IsEventJudged, IsBegunAgain, GoesOnBy, MayEnd, GoesOnAt}
+use Rattle.calls_watch.specs.kept.Texts.{HoldsText, DecidesText, HasVerdict, outcome_of}
+use Rattle.calls_watch.specs.kept.Watching.{IsMonitoring, IsReading, IsMonitored, IsWatching, StopsAt, Stops, StateAfterLine}
+use Rattle.calls_watch.specs.kept.Watching.{IsOver, IsOpened, IsLoadAfter, Begins, LoadGrows, JudgedBy, monitor_at}
+use Rattle.calls_watch.specs.kept.Watching.{KeepsText, IsTaken, IsEventTaken, IsNext, IsBegunAgain, DecidesAs, Decides}
+use Rattle.calls_watch.specs.kept.Watching.{IsDecided, EndsHistory, GoesOnBy, MayEnd, GoesOnAt}
 use Rattle.calls_watch.proofs.Histories.{good_more, calls_more, others_more}
+use Rattle.calls_watch.proofs.TextLemmas.{leads_more, kept_if, IsSame, read_again, good_by_order}
 use Rattle.calls_watch.proofs.Uncalled.{all_linearizable, none_linearizable}
 
 -- MONITORS
@@ -52,44 +59,53 @@ not_running (Declaring d) events o none = tt
 not_running (Running r) events o none = absurd (none r refl)
 not_running (Ended r) events o none = tt
 
--- while events may come, there is a monitor
-record HasMonitor (r : RecordingModel) (events : List Event) (o : Option Monitor) : Type 0 where
-  monitor : Monitor
-  is : o ≡ Some monitor
-  monitoring : IsMonitoring r events monitor
-
-by_option : (r : RecordingModel) (events : List Event) (o : Option Monitor)
-    → IsMonitored (Running r) events o → HasMonitor r events o
-by_option r events (Some m) monitoring = record { monitor = m; is = refl; monitoring = monitoring }
-by_option r events None monitoring = absurd monitoring
-
-monitor_there : (s : Stage) (r : RecordingModel) (events : List Event) (o : Option Monitor) → s ≡ Running r
-    → IsMonitored s events o → HasMonitor r events o
-monitor_there s r events o is monitored =
-    by_option r events o (subst (λ (t : Stage). IsMonitored t events o) is monitored)
+-- while events may come, they are judged or read
+known_stage : (s : Stage) (r : RecordingModel) (events : List Event) (o : Option Monitor)
+    → s ≡ Running r → IsMonitored s events o → IsMonitored (Running r) events o
+known_stage s r events o is monitored =
+    subst (λ (t : Stage). IsMonitored t events o) is monitored
 
 -- A STATE
 
 -- the parts of a state, if the stage is known
 built_state : (ps qs : List (List ℕ)) (w : Watcher) (reads : List OneRead) (start : ℕ)
     (begun : List (List ℕ)) (events : List Event) (s : Stage) (n : ℕ) → AreGood 1 ps reads start begun
-    → stage_with_events events w.follower ≡ s → w.number ≡ n → IsReached start begun s n qs
-    → is_ended s ≡ false → HasEvents events w.follower → IsMonitored s events w.monitor
-    → IsLoad reads (reverse events) w.load → IsWatching ps qs w
-built_state ps qs w reads start begun events s n good is number reached going seen monitored load =
-    record {
+    → stage_with_events events w.follower ≡ s → w.number ≡ n
+    → (reached : IsReached start begun s n qs) → is_ended s ≡ false → HasEvents events w.follower
+    → IsMonitored s events w.monitor → IsLoad reads (reverse events) w.load → w.first ≡ start
+    → HoldsText reached.lines w.kept → IsWatching ps qs w
+built_state ps qs w reads start begun events s n good is number reached going seen monitored load first
+    kept = record {
       reads = reads;
       start = start;
       begun = begun;
       good = good;
       events = events;
-      reached = subst (λ (k : ℕ). IsReached start begun (stage_with_events events w.follower) k qs) (sym number)
-          (subst (λ (t : Stage). IsReached start begun t n qs) (sym is) reached);
+      reached = record {
+        lines = reached.lines;
+        are = reached.are;
+        leads = subst (Leads Opening reached.lines) (sym is) reached.leads;
+        number = number ∙ reached.number;
+      };
       going = subst (λ (t : Stage). is_ended t ≡ false) (sym is) going;
       seen = seen;
       monitored = subst (λ (t : Stage). IsMonitored t events w.monitor) (sym is) monitored;
       load = load;
+      first = first;
+      kept = kept;
     }
+
+no_lines : (n : ℕ) → n ≡ n + 0
+no_lines n = omega arith
+
+-- before the first line of a history
+abbrev reached_first : (n : ℕ) (ps : List (List ℕ)) → IsReached n ps Opening n ps
+reached_first n ps = record {
+  lines = [];
+  are = refl;
+  leads = refl;
+  number = no_lines n;
+}
 
 -- the load before the first event
 none_loaded : (reads : List OneRead) (events : List Event) (l k : Load) → events ≡ [] → k ≡ l
@@ -108,12 +124,22 @@ opening_open = refl
 
 module _ (ps qs : List (List ℕ)) (q line : List ℕ) (old mid new : Watcher)
     (w : IsWatching ps (line ∷ q ∷ qs) old) (number : mid.number ≡ old.number + 1)
-    (monitor : mid.monitor ≡ old.monitor) (load : mid.load ≡ old.load) where
-  steps_on : (t : Stage) → step (stage_with_events w.events old.follower) line ≡ Ok t
+    (monitor : mid.monitor ≡ old.monitor) (load : mid.load ≡ old.load)
+    (first : mid.first ≡ old.first) (kept : HoldsText (w.reached.lines ++ line ∷ []) mid.kept) where
+  count_on : old.number + 1 ≡ w.start + length (w.reached.lines ++ line ∷ [])
+  count_on =
+      let before : old.number ≡ w.start + length w.reached.lines = w.reached.number in
+      omega (arith, length-append w.reached.lines (line ∷ []))
+
+  abbrev steps_on : (t : Stage) → step (stage_with_events w.events old.follower) line ≡ Ok t
       → IsReached w.start w.begun t (old.number + 1) (q ∷ qs)
-  steps_on t steps =
-      reached_more w.start w.begun (stage_with_events w.events old.follower) t old.number line (q ∷ qs) w.reached
-      steps
+  steps_on t steps = record {
+    lines = w.reached.lines ++ line ∷ [];
+    are = w.reached.are ∙ sym (append_assoc w.reached.lines (line ∷ []) (q ∷ qs));
+    leads = leads_more Opening (stage_with_events w.events old.follower) t w.reached.lines line
+        w.reached.leads steps;
+    number = count_on;
+  }
 
   stopped : (stop : Stop) → StopsAt stop w.start w.begun new → Stops stop ps new
   stopped stop at = record {
@@ -124,6 +150,28 @@ module _ (ps qs : List (List ℕ)) (q line : List ℕ) (old mid new : Watcher)
     stops = at;
   }
 
+  memory_goes : (stop : Stop) → stop ≡ stops.Memory → Stops stop ps new
+  memory_goes stop memory =
+      subst (λ (k : Stop). Stops k ps new) (sym memory) (stopped stops.Memory tt)
+
+  -- the lines so far are too many
+  too_large : (s : Stage) (r : RecordingModel)
+      → step (stage_with_events w.events old.follower) line ≡ Ok s → IsReadAt s r → CallsCells r
+      → mid.kept ≡ TooLong → Stops stops.TooLarge ps new
+  too_large s r steps is cells long = stopped stops.TooLarge (
+    record {
+      stage = s;
+      number = old.number + 1;
+      next = q;
+      left = qs;
+      reached = steps_on s steps;
+      recorded = r;
+      is = is;
+      cells = cells;
+    },
+    subst (HoldsText (w.reached.lines ++ line ∷ [])) long kept,
+  )
+
   -- A LINE BEFORE THE EVENTS
 
   heading_goes : IsHeading line w.events old.follower.stage mid.follower.stage → new ≡ mid
@@ -133,7 +181,7 @@ module _ (ps qs : List (List ℕ)) (q line : List ℕ) (old mid new : Watcher)
       (built_state ps (q ∷ qs) mid w.reads w.start w.begun [] (stage_with_events [] mid.follower) (old.number + 1)
       w.good refl number (steps_on (stage_with_events [] mid.follower) h.steps) h.going h.seen
       (not_running (stage_with_events [] mid.follower) [] mid.monitor h.no_run)
-      (none_loaded w.reads w.events old.load mid.load h.none load w.load))
+      (none_loaded w.reads w.events old.load mid.load h.none load w.load) (first ∙ w.first) kept)
 
   -- THE LINE RUN
 
@@ -156,40 +204,42 @@ module _ (ps qs : List (List ℕ)) (q line : List ℕ) (old mid new : Watcher)
         watches = o.watches;
       }))
       (none_loaded w.reads w.events old.load new.load h.none (b.5 ∙ load) w.load)
-  run_goes h (Err stops.NotWatched) b = absurd b
+      (b.6 ∙ first ∙ w.first)
+      (kept_if (w.reached.lines ++ line ∷ []) mid.kept new.kept b.7.0 b.7.1 kept)
+  run_goes h (Err stops.RefusedAtEnd) b = absurd b
+  run_goes h (Err stops.NotDecided) b = absurd b
+  run_goes h (Err stops.TooLarge) b = absurd b
   run_goes h (Err stops.Memory) b = stopped stops.Memory tt
   run_goes h (Err (stops.Unread fault)) b = absurd b
   run_goes h (Err (stops.Refused x report)) b = absurd b
 
   -- AN EVENT
 
-  module _ (x : Event) (e : IsEvent line w.events x old.follower.stage mid.follower.stage) where
-    has : HasMonitor e.before w.events old.monitor
-    has = monitor_there (stage_with_events w.events old.follower) e.before w.events old.monitor e.was w.monitored
-
+  module _ (x : Event) (e : IsEvent line w.events x old.follower.stage mid.follower.stage)
+      (kinds : List Kind) (are : AreKinds e.before.heading e.before.from kinds)
+      (history : IsHistory kinds (reverse w.events))
+      (positions : clock (reverse w.events) ≡ length w.events) where
     abbrev past : List Event
     past = reverse w.events
 
-    history_now : IsHistory has.monitoring.kinds (x ∷ past)
+    history_now : IsHistory kinds (x ∷ past)
     history_now = (
-      (let a : clock past ≡ length w.events = has.monitoring.positions in
-          let b : x.at ≡ length w.events = e.at in
-          let c : clock past ≤ x.at = omega arith in c),
-      e.next has.monitoring.kinds has.monitoring.are,
-      has.monitoring.history,
+      (let b : x.at ≡ length w.events = e.at in
+          let c : clock past ≤ x.at = omega (arith, positions) in c),
+      e.next kinds are,
+      history,
     )
 
     now_past : reverse (w.events ++ x ∷ []) ≡ x ∷ past
     now_past = reverse-append w.events (x ∷ [])
 
-    are_now : AreKinds e.after.heading e.after.from has.monitoring.kinds
+    are_now : AreKinds e.after.heading e.after.from kinds
     are_now =
-        subst (λ (f : List (ℕ × ℕ)). AreKinds e.after.heading f has.monitoring.kinds) e.from
-        (subst (λ (h : HeadingModel). AreKinds h e.before.from has.monitoring.kinds) e.heading
-        has.monitoring.are)
+        subst (λ (f : List (ℕ × ℕ)). AreKinds e.after.heading f kinds) e.from
+        (subst (λ (h : HeadingModel). AreKinds h e.before.from kinds) e.heading are)
 
-    history_more : IsHistory has.monitoring.kinds (reverse (w.events ++ x ∷ []))
-    history_more = subst (IsHistory has.monitoring.kinds) (sym now_past) history_now
+    history_more : IsHistory kinds (reverse (w.events ++ x ∷ []))
+    history_more = subst (IsHistory kinds) (sym now_past) history_now
 
     positions_more : clock (reverse (w.events ++ x ∷ [])) ≡ length (w.events ++ x ∷ [])
     positions_more =
@@ -198,7 +248,7 @@ module _ (ps qs : List (List ℕ)) (q line : List ℕ) (old mid new : Watcher)
         omega (arith, length-append w.events (x ∷ [])) in
         ap clock now_past ∙ c
 
-    reached_now : IsReached w.start w.begun (Running e.after) (old.number + 1) (q ∷ qs)
+    abbrev reached_now : IsReached w.start w.begun (Running e.after) (old.number + 1) (q ∷ qs)
     reached_now = steps_on (Running e.after) e.steps
 
     loaded : new.follower ≡ mid.follower → LoadGrows mid x new
@@ -216,86 +266,143 @@ module _ (ps qs : List (List ℕ)) (q line : List ℕ) (old mid new : Watcher)
           others = omega (arith, after.others, before.others, pending);
         })
 
-    up_to_now : new.number ≡ mid.number
-        → IsUpTo w.start w.begun new.number e.after has.monitoring.kinds past x
-    up_to_now count = record {
-      next = q;
-      left = qs;
-      reached = subst (λ (k : ℕ). IsReached w.start w.begun (Running e.after) k (q ∷ qs))
-          (sym (count ∙ number)) reached_now;
-      recording = record {
-        objects = are_now;
-        history = subst (λ (es : List Event). IsHistory has.monitoring.kinds (reverse es))
-            (sym e.events_are) history_more;
-        positions = subst (λ (es : List Event). clock (reverse es) ≡ length es)
-            (sym e.events_are) positions_more;
-      };
-      last = ap reverse e.events_are ∙ now_past;
-      watched = has.monitoring.watched;
-      before = has.monitoring.linearizable;
-    }
-
-    event_stops : (report : Report) (n : Monitor)
-        → Judges has.monitor n x (Err (rejections.Refused report)) → new.follower ≡ mid.follower
-        → new.number ≡ mid.number → invokes_cells x.action ≡ false
-        → Stops (stops.Refused x report) ps new
-    event_stops report n judges same count plain = stopped (stops.Refused x report) (
-      e.after,
-      w.events ++ x ∷ [],
-      ap (λ (f : Follower). stage_with_events (w.events ++ x ∷ []) f) same ∙ e.is,
-      record {
-        kinds = has.monitoring.kinds;
-        past = past;
-        up_to = up_to_now count;
-        watched = plain;
-        refused = judges has.monitoring.kinds past history_now has.monitoring.watches;
-      },
-    )
-
-    cells_stop : invokes_cells x.action ≡ true → new.number ≡ mid.number
-        → Stops stops.NotWatched ps new
-    cells_stop cells count = stopped stops.NotWatched (record {
-      recorded = e.after;
-      event = x;
-      kinds = has.monitoring.kinds;
-      past = past;
-      up_to = up_to_now count;
-      cells = cells;
-    })
-
-    event_taken : (n : Monitor) → new.monitor ≡ Some n → Judges has.monitor n x (Ok tt)
-        → LoadGrows mid x new → new.follower ≡ mid.follower → new.number ≡ mid.number
-        → invokes_cells x.action ≡ false → IsWatching ps (q ∷ qs) new
-    event_taken n is judges grows same count plain =
-        let verdict = judges has.monitoring.kinds past history_now has.monitoring.watches in
-        let watched : AreWatched (x ∷ past) = (plain, has.monitoring.watched) in
-        let fine = all_linearizable has.monitoring.kinds (x ∷ past) history_now watched verdict.0 in
+    -- the state, if the event was judged or read
+    taken_so : KeepsText mid new → LoadGrows mid x new
+        → IsMonitored (Running e.after) (w.events ++ x ∷ []) new.monitor
+        → IsWatching ps (q ∷ qs) new
+    taken_so keeps grows monitored =
         built_state ps (q ∷ qs) new w.reads w.start w.begun (w.events ++ x ∷ []) (Running e.after)
-        (old.number + 1) w.good (ap (λ (f : Follower). stage_with_events (w.events
-        ++ x ∷ []) f) same ∙ e.is)
-        (count ∙ number) reached_now (running_open e.after)
-        (subst (HasEvents (w.events ++ x ∷ [])) (sym same) e.seen)
-        (subst (IsMonitored (Running e.after) (w.events ++ x ∷ [])) (sym is) (record {
-          kinds = has.monitoring.kinds;
+        (old.number + 1) w.good
+        (ap (λ (f : Follower). stage_with_events (w.events ++ x ∷ []) f) keeps.follower ∙ e.is)
+        (keeps.number ∙ number) reached_now (running_open e.after)
+        (subst (HasEvents (w.events ++ x ∷ [])) (sym keeps.follower) e.seen)
+        monitored (loaded keeps.follower grows) (keeps.first ∙ first ∙ w.first)
+        (subst (HoldsText (w.reached.lines ++ line ∷ [])) (sym keeps.kept) kept)
+
+    -- an event that is only read
+    read_so : (AreWatched (x ∷ past) → ⊥) → KeepsText mid new → LoadGrows mid x new
+        → new.monitor ≡ None → IsWatching ps (q ∷ qs) new
+    read_so cells keeps grows none =
+        taken_so keeps grows
+        (subst (IsMonitored (Running e.after) (w.events ++ x ∷ [])) (sym none) (record {
+          kinds = kinds;
           are = are_now;
-          watched = subst AreWatched (sym now_past) watched;
-          linearizable = subst (IsLinearizable has.monitoring.kinds) (sym now_past) fine;
+          cells = λ watched. cells (subst AreWatched now_past watched);
           history = history_more;
           positions = positions_more;
-          watches = subst (λ (p : List Event). monitors.Watches has.monitoring.kinds p n)
-              (sym now_past) verdict.1;
         }))
-        (loaded same grows)
 
-    event_goes : (result : Result (Unit {0}) Stop) → IsEventJudged has.monitor x mid new result
-        → StateAfterLine result ps (q ∷ qs) new
-    event_goes (Ok u) j = event_taken j.0 j.1 j.2 j.3 j.4 j.5 j.6
-    event_goes (Err (stops.Refused y report)) j =
-        subst (λ (z : Event). Stops (stops.Refused z report) ps new) (sym j.0)
-        (event_stops report j.1.0 j.1.1 j.2 j.3 j.4)
-    event_goes (Err stops.Memory) j = stopped stops.Memory tt
-    event_goes (Err stops.NotWatched) j = cells_stop j.0 j.2
-    event_goes (Err (stops.Unread fault)) j = absurd j
+    event_too_large : (AreWatched (x ∷ past) → ⊥) → mid.kept ≡ TooLong
+        → Stops stops.TooLarge ps new
+    event_too_large cells long =
+        let are_events : reverse e.after.events ≡ x ∷ past = ap reverse e.events_are ∙ now_past in
+        too_large (Running e.after) e.after e.steps refl
+        (λ watched. cells (subst AreWatched are_events watched)) long
+
+    left_goes : (AreWatched (x ∷ past) → ⊥) → (result : Result (Unit {0}) Stop)
+        → IsTaken None x mid new result → StateAfterLine result ps (q ∷ qs) new
+    left_goes cells (Ok u) t = read_so cells t.2 t.1 t.0
+    left_goes cells (Err stops.TooLarge) (inl t) = event_too_large cells t.0
+    left_goes cells (Err stops.Memory) (inl t) = stopped stops.Memory tt
+    left_goes cells (Err stops.RefusedAtEnd) (inl t) = absurd t.0
+    left_goes cells (Err stops.NotDecided) (inl t) = absurd t.0
+    left_goes cells (Err (stops.Unread fault)) (inl t) = absurd t.0
+    left_goes cells (Err (stops.Refused y report)) (inl t) = absurd t.0
+    left_goes cells (Err stop) (inr memory) = memory_goes stop memory
+
+  module _ (x : Event) (e : IsEvent line w.events x old.follower.stage mid.follower.stage)
+      (m : Monitor) (is : IsMonitoring e.before w.events m) (plain : invokes_cells x.action ≡ false)
+    where
+      up_to_now : new.number ≡ mid.number
+          → IsUpTo w.start w.begun new.number e.after is.kinds (reverse w.events) x
+      up_to_now count = record {
+        next = q;
+        left = qs;
+        reached = subst (λ (k : ℕ). IsReached w.start w.begun (Running e.after) k (q ∷ qs))
+            (sym (count ∙ number)) (steps_on (Running e.after) e.steps);
+        recording = record {
+          objects = are_now x e is.kinds is.are is.history is.positions;
+          history = subst (λ (es : List Event). IsHistory is.kinds (reverse es))
+              (sym e.events_are) (history_more x e is.kinds is.are is.history is.positions);
+          positions = subst (λ (es : List Event). clock (reverse es) ≡ length es)
+              (sym e.events_are) (positions_more x e is.kinds is.are is.history is.positions);
+        };
+        last = ap reverse e.events_are ∙ now_past x e is.kinds is.are is.history is.positions;
+        watched = is.watched;
+        before = is.linearizable;
+      }
+
+      event_stops : (report : Report) (n : Monitor)
+          → Judges m n x (Err (rejections.Refused report)) → KeepsText mid new
+          → Stops (stops.Refused x report) ps new
+      event_stops report n judges keeps = stopped (stops.Refused x report) (
+        e.after,
+        w.events ++ x ∷ [],
+        ap (λ (f : Follower). stage_with_events (w.events ++ x ∷ []) f) keeps.follower ∙ e.is,
+        record {
+          kinds = is.kinds;
+          past = reverse w.events;
+          up_to = up_to_now keeps.number;
+          watched = plain;
+          refused = judges is.kinds (reverse w.events)
+              (history_now x e is.kinds is.are is.history is.positions) is.watches;
+        },
+      )
+
+      event_taken : (n : Monitor) → new.monitor ≡ Some n → Judges m n x (Ok tt)
+          → LoadGrows mid x new → KeepsText mid new → IsWatching ps (q ∷ qs) new
+      event_taken n at judges grows keeps =
+          let past : List Event = reverse w.events in
+          let now : IsHistory is.kinds (x ∷ past) =
+          history_now x e is.kinds is.are is.history is.positions in
+          let same : reverse (w.events ++ x ∷ []) ≡ x ∷ past =
+          now_past x e is.kinds is.are is.history is.positions in
+          let verdict = judges is.kinds past now is.watches in
+          let watched : AreWatched (x ∷ past) = (plain, is.watched) in
+          let fine = all_linearizable is.kinds (x ∷ past) now watched verdict.0 in
+          taken_so x e is.kinds is.are is.history is.positions keeps grows
+          (subst (IsMonitored (Running e.after) (w.events ++ x ∷ [])) (sym at) (record {
+            kinds = is.kinds;
+            are = are_now x e is.kinds is.are is.history is.positions;
+            watched = subst AreWatched (sym same) watched;
+            linearizable = subst (IsLinearizable is.kinds) (sym same) fine;
+            history = history_more x e is.kinds is.are is.history is.positions;
+            positions = positions_more x e is.kinds is.are is.history is.positions;
+            watches = subst (λ (p : List Event). monitors.Watches is.kinds p n) (sym same) verdict.1;
+          }))
+
+      judged_goes : (result : Result (Unit {0}) Stop) → IsTaken (Some m) x mid new result
+          → StateAfterLine result ps (q ∷ qs) new
+      judged_goes (Ok u) t = event_taken t.0.0 t.0.1 t.0.2 t.1 t.2
+      judged_goes (Err (stops.Refused y report)) (inl t) =
+          subst (λ (z : Event). Stops (stops.Refused z report) ps new) (sym t.0.0)
+          (event_stops report t.0.1.0 t.0.1.1 t.1)
+      judged_goes (Err stops.Memory) (inl t) = stopped stops.Memory tt
+      judged_goes (Err stops.RefusedAtEnd) (inl t) = absurd t.0
+      judged_goes (Err stops.NotDecided) (inl t) = absurd t.0
+      judged_goes (Err stops.TooLarge) (inl t) = absurd t.0
+      judged_goes (Err (stops.Unread fault)) (inl t) = absurd t.0
+      judged_goes (Err stop) (inr memory) = memory_goes stop memory
+
+  invoked : (x : Event) (past : List Event) → invokes_cells x.action ≡ true
+      → AreWatched (x ∷ past) → ⊥
+  invoked x past cells watched =
+      let never : true ≡ false = sym cells ∙ watched.0 in
+      cc
+
+  event_goes : (x : Event) (e : IsEvent line w.events x old.follower.stage mid.follower.stage)
+      (b : Bool) (o : Option Monitor) → invokes_cells x.action ≡ b
+      → IsMonitored (Running e.before) w.events o → (result : Result (Unit {0}) Stop)
+      → IsTaken (if b then None else o) x mid new result → StateAfterLine result ps (q ∷ qs) new
+  event_goes x e true (Some m) cells is result t =
+      left_goes x e is.kinds is.are is.history is.positions (invoked x (reverse w.events) cells)
+      result t
+  event_goes x e true None cells is result t =
+      left_goes x e is.kinds is.are is.history is.positions (invoked x (reverse w.events) cells)
+      result t
+  event_goes x e false (Some m) plain is result t = judged_goes x e m is plain result t
+  event_goes x e false None plain is result t =
+      left_goes x e is.kinds is.are is.history is.positions (λ watched. is.cells watched.1) result t
 
   -- THE LINE END
 
@@ -303,36 +410,31 @@ module _ (ps qs : List (List ℕ)) (q line : List ℕ) (old mid new : Watcher)
     abbrev read : OneRead
     read = record { recorded = e.whole; number = old.number + 1; rest = q ∷ qs }
 
-    monitor_last : HasMonitor e.whole w.events old.monitor
-    monitor_last =
-        monitor_there (stage_with_events w.events old.follower) e.whole w.events old.monitor e.was
-        w.monitored
+    abbrev reached_whole : IsReached w.start w.begun (Ended e.whole) (old.number + 1) (q ∷ qs)
+    reached_whole = steps_on (Ended e.whole) e.steps
 
-    good_read : IsGood e.whole
-    good_read =
-        let m : IsMonitoring e.whole w.events monitor_last.monitor = monitor_last.monitoring in
-        record {
-          kinds = m.kinds;
-          recording = record {
-            objects = m.are;
-            history = subst (λ (es : List Event). IsHistory m.kinds (reverse es)) (sym e.events_are)
-                m.history;
-            positions = subst (λ (es : List Event). clock (reverse es) ≡ length es)
-                (sym e.events_are) m.positions;
-          };
-          watched = subst (λ (es : List Event). AreWatched (reverse es)) (sym e.events_are) m.watched;
-          linearizable = subst (λ (es : List Event). IsLinearizable m.kinds (reverse es))
-              (sym e.events_are) m.linearizable;
-        }
+    good_read : (m : Monitor) → IsMonitoring e.whole w.events m → IsGood e.whole
+    good_read m is = record {
+      kinds = is.kinds;
+      recording = record {
+        objects = is.are;
+        history = subst (λ (es : List Event). IsHistory is.kinds (reverse es)) (sym e.events_are)
+            is.history;
+        positions = subst (λ (es : List Event). clock (reverse es) ≡ length es) (sym e.events_are)
+            is.positions;
+      };
+      linearizable = subst (λ (es : List Event). IsLinearizable is.kinds (reverse es))
+          (sym e.events_are) is.linearizable;
+    }
 
-    good_now : AreGood 1 ps (w.reads ++ read ∷ []) (old.number + 1) (q ∷ qs)
-    good_now = good_more 1 ps w.reads w.start w.begun read w.good
-        (reached_end w.start w.begun e.whole (old.number + 1) q qs (steps_on (Ended e.whole) e.steps))
-        good_read
+    whole_read : parse_from w.start Opening w.begun ≡ Ok read
+    whole_read = reached_end w.start w.begun e.whole (old.number + 1) q qs reached_whole
 
-    load_now : new.load.histories ≡ mid.load.histories + 1 → new.load.calls ≡ mid.load.calls
-        → new.load.others ≡ mid.load.others → IsLoad (w.reads ++ read ∷ []) [] new.load
-    load_now histories calls others =
+    good_now : IsGood e.whole → AreGood 1 ps (w.reads ++ read ∷ []) (old.number + 1) (q ∷ qs)
+    good_now good = good_more 1 ps w.reads w.start w.begun read w.good whole_read good
+
+    load_now : IsNext mid new → IsLoad (w.reads ++ read ∷ []) [] new.load
+    load_now next =
         let before : IsLoad w.reads (reverse w.events) mid.load =
         subst (IsLoad w.reads (reverse w.events)) (sym load) w.load in
         let c : calls_of (reverse e.whole.events) ≡ calls_of (reverse w.events) =
@@ -340,21 +442,131 @@ module _ (ps qs : List (List ℕ)) (q line : List ℕ) (old mid new : Watcher)
         let o : others_of (reverse e.whole.events) ≡ others_of (reverse w.events) =
         ap (λ (es : List Event). others_of (reverse es)) e.events_are in
         record {
-          histories = omega (arith, histories, before.histories, length-append w.reads (read ∷ []));
-          calls = omega (arith, calls, before.calls, c, calls_more w.reads read);
-          others = omega (arith, others, before.others, o, others_more w.reads read);
+          histories = omega (
+            arith,
+            next.histories,
+            before.histories,
+            length-append w.reads (read ∷ []),
+          );
+          calls = omega (arith, next.calls, before.calls, c, calls_more w.reads read);
+          others = omega (arith, next.others, before.others, o, others_more w.reads read);
         }
 
-    end_goes : (result : Result (Unit {0}) Stop) → IsBegunAgain mid new result
-        → StateAfterLine result ps (q ∷ qs) new
-    end_goes (Ok u) b =
+    next_goes : IsGood e.whole → IsNext mid new → IsWatching ps (q ∷ qs) new
+    next_goes good next =
         built_state ps (q ∷ qs) new (w.reads ++ read ∷ []) (old.number + 1) (q ∷ qs) [] Opening
-        (old.number + 1) good_now b.0 (b.2 ∙ number) (reached_none (old.number + 1) (q ∷ qs))
-        opening_open b.1 tt (load_now b.3 b.4 b.5)
-    end_goes (Err stops.Memory) b = stopped stops.Memory tt
-    end_goes (Err stops.NotWatched) b = absurd b
-    end_goes (Err (stops.Unread fault)) b = absurd b
-    end_goes (Err (stops.Refused x report)) b = absurd b
+        (old.number + 1) (good_now good) next.opening (next.number ∙ number)
+        (reached_first (old.number + 1) (q ∷ qs)) opening_open next.seen tt (load_now next)
+        (next.first ∙ next.number ∙ number) next.kept
+
+    again_goes : IsGood e.whole → (result : Result (Unit {0}) Stop) → IsBegunAgain mid new result
+        → StateAfterLine result ps (q ∷ qs) new
+    again_goes good (Ok u) next = next_goes good next
+    again_goes good (Err stop) memory = memory_goes stop memory
+
+    -- the history was decided now
+    same_whole : (later : Watcher) (result : Result (Unit {0}) Stop) (d : DecidesAs mid later result)
+        → IsSame d.decided e.whole (old.number + 1)
+    same_whole later result d =
+        read_again w.start w.begun e.whole (old.number + 1) q qs reached_whole d.bytes d.decided
+        (subst (HoldsText (w.reached.lines ++ line ∷ [])) d.was kept)
+        (subst (λ (n : ℕ). DecidesText n d.bytes.items d.decided) (first ∙ w.first) d.decides)
+
+    has_verdict : (later : Watcher) (result : Result (Unit {0}) Stop) (d : DecidesAs mid later result)
+        (v : Verdict) → d.decided.verdict ≡ v → HasVerdict d.decided.read.recording v
+    has_verdict later result d v is =
+        subst (HasVerdict d.decided.read.recording) is d.decides.verdict
+
+    good_decided : (later : Watcher) (u : Unit {0}) (d : DecidesAs mid later (Ok u)) (v : Verdict)
+        → d.decided.verdict ≡ v → Ok u ≡ outcome_of v → IsGood e.whole
+    good_decided later u d (verdicts.Linearizable order) is outcome =
+        subst IsGood (same_whole later (Ok u) d).recorded
+        (good_by_order d.decided.read.recording order.items
+        (has_verdict later (Ok u) d (verdicts.Linearizable order) is))
+    good_decided later u d (verdicts.Refused x) is outcome = absurd (let never : ⊥ = cc in never)
+    good_decided later u d (verdicts.NotDecided x) is outcome = absurd (let never : ⊥ = cc in never)
+
+    abbrev decided_now : IsReading e.whole w.events → (result : Result (Unit {0}) Stop)
+        → DecidesAs mid new result → IsDecided w.start w.begun new
+    decided_now reading result d =
+        let same : IsSame d.decided e.whole (old.number + 1) = same_whole new result d in
+        let found : OneRead =
+        record { recorded = d.decided.read.recording; number = d.decided.read.number; rest = q ∷ qs }
+        in
+        let one : found ≡ read =
+        ap (λ (r : RecordingModel).
+        record { recorded = r; number = d.decided.read.number; rest = q ∷ qs }) same.recorded
+        ∙ ap (λ (n : ℕ). record { recorded = e.whole; number = n; rest = q ∷ qs }) same.number in
+        let are : reverse d.decided.read.recording.events ≡ reverse w.events =
+        ap (λ (r : RecordingModel). reverse r.events) same.recorded ∙ ap reverse e.events_are in
+        record {
+          decided = d.decided;
+          is = d.is;
+          rest = q ∷ qs;
+          reads = whole_read ∙ ap Ok (sym one);
+          cells = λ watched. reading.cells (subst AreWatched are watched);
+        }
+
+    refused_now : IsReading e.whole w.events → (d : DecidesAs mid new (Err stops.RefusedAtEnd))
+        (v : Verdict) → d.decided.verdict ≡ v → Err stops.RefusedAtEnd ≡ outcome_of v
+        → Stops stops.RefusedAtEnd ps new
+    refused_now reading d (verdicts.Refused x) is outcome = stopped stops.RefusedAtEnd (
+      decided_now reading (Err stops.RefusedAtEnd) d,
+      x,
+      is,
+      has_verdict new (Err stops.RefusedAtEnd) d (verdicts.Refused x) is,
+    )
+    refused_now reading d (verdicts.Linearizable order) is outcome =
+        absurd (let never : ⊥ = cc in never)
+    refused_now reading d (verdicts.NotDecided u) is outcome = absurd (let never : ⊥ = cc in never)
+
+    open_now : IsReading e.whole w.events → (d : DecidesAs mid new (Err stops.NotDecided))
+        (v : Verdict) → d.decided.verdict ≡ v → Err stops.NotDecided ≡ outcome_of v
+        → Stops stops.NotDecided ps new
+    open_now reading d (verdicts.NotDecided u) is outcome = stopped stops.NotDecided (
+      decided_now reading (Err stops.NotDecided) d,
+      u,
+      is,
+      has_verdict new (Err stops.NotDecided) d (verdicts.NotDecided u) is,
+    )
+    open_now reading d (verdicts.Linearizable order) is outcome =
+        absurd (let never : ⊥ = cc in never)
+    open_now reading d (verdicts.Refused x) is outcome = absurd (let never : ⊥ = cc in never)
+
+    no_outcome : (stop : Stop) (v : Verdict) → Err stop ≡ outcome_of v
+        → (stop ≡ stops.RefusedAtEnd) ⊎ (stop ≡ stops.NotDecided)
+    no_outcome stop (verdicts.Refused x) outcome = inl cc
+    no_outcome stop (verdicts.NotDecided u) outcome = inr cc
+    no_outcome stop (verdicts.Linearizable order) outcome = absurd (let never : ⊥ = cc in never)
+
+    end_stops : IsReading e.whole w.events → (stop : Stop) → Decides mid new (Err stop)
+        → Stops stop ps new
+    end_stops reading stops.Memory d = stopped stops.Memory tt
+    end_stops reading stops.TooLarge long =
+        too_large (Ended e.whole) e.whole e.steps refl
+        (λ watched. reading.cells
+        (subst AreWatched (ap reverse e.events_are) watched)) long
+    end_stops reading stops.RefusedAtEnd d = refused_now reading d d.decided.verdict refl d.outcome
+    end_stops reading stops.NotDecided d = open_now reading d d.decided.verdict refl d.outcome
+    end_stops reading (stops.Unread fault) d =
+        elim (no_outcome (stops.Unread fault) d.decided.verdict d.outcome) [
+          | inl is ↦ absurd (let never : ⊥ = cc in never)
+          | inr is ↦ absurd (let never : ⊥ = cc in never)
+        ]
+    end_stops reading (stops.Refused x report) d =
+        elim (no_outcome (stops.Refused x report) d.decided.verdict d.outcome) [
+          | inl is ↦ absurd (let never : ⊥ = cc in never)
+          | inr is ↦ absurd (let never : ⊥ = cc in never)
+        ]
+
+    end_goes : (o : Option Monitor) → IsMonitored (Running e.whole) w.events o
+        → (result : Result (Unit {0}) Stop) → EndsHistory o mid new result
+        → StateAfterLine result ps (q ∷ qs) new
+    end_goes (Some m) is result b = again_goes (good_read m is) result b
+    end_goes None is (Ok u) b =
+        next_goes (good_decided b.0.0 u b.0.1 b.0.1.decided.verdict refl b.0.1.outcome) b.1
+    end_goes None is (Err stop) (inl d) = end_stops is stop d
+    end_goes None is (Err stop) (inr memory) = memory_goes stop memory
 
   -- ANY LINE
 
@@ -370,8 +582,15 @@ module _ (ps qs : List (List ℕ)) (q line : List ℕ) (old mid new : Watcher)
   line_goes lines.Heading result h by = nothing_goes h result by
   line_goes lines.Run result h by = run_goes h result (by h.begun h.is)
   line_goes (lines.Event x) result e by =
-      event_goes x e result (by (has x e).monitor (monitor ∙ (has x e).is))
-  line_goes lines.End result e by = end_goes e result by
+      event_goes x e (invokes_cells x.action) mid.monitor refl
+      (subst (IsMonitored (Running e.before) w.events) (sym monitor)
+      (known_stage (stage_with_events w.events old.follower) e.before w.events old.monitor e.was
+      w.monitored)) result by
+  line_goes lines.End result e by =
+      end_goes e mid.monitor
+      (subst (IsMonitored (Running e.whole) w.events) (sym monitor)
+      (known_stage (stage_with_events w.events old.follower) e.whole w.events old.monitor e.was
+      w.monitored)) result by
 
 -- A FAULTY LINE
 
@@ -483,15 +702,16 @@ over_all ps rest old w may =
 
 -- before the first line of a text
 pub begins : (ps : List (List ℕ)) (w : Watcher) → stage_with_events [] w.follower ≡ Opening
-    → HasEvents [] w.follower → w.number ≡ 1 → w.monitor ≡ None → w.load.histories ≡ 0
-    → w.load.calls ≡ 0 → w.load.others ≡ 0 → IsWatching ps ps w
-begins ps w is seen number none histories calls others =
-    built_state ps ps w [] 1 ps [] Opening 1 (refl, refl) is number (reached_none 1 ps) opening_open
+    → HasEvents [] w.follower → w.number ≡ 1 → w.load.histories ≡ 0
+    → w.load.calls ≡ 0 → w.load.others ≡ 0 → w.first ≡ 1 → HoldsText [] w.kept
+    → IsWatching ps ps w
+begins ps w is seen number histories calls others first kept =
+    built_state ps ps w [] 1 ps [] Opening 1 (refl, refl) is number (reached_first 1 ps) opening_open
     seen tt (record {
       histories = histories;
       calls = omega (arith, calls);
       others = omega (arith, others);
-    })
+    }) first kept
 
 -- OPENING A MONITOR
 
@@ -505,37 +725,26 @@ opened_same q r m same o =
     subst (λ (t : RecordingModel). IsOpened t m) (running_same (with_events q []) r same)
     (record { kinds = o.kinds; are = o.are; watches = o.watches })
 
--- AN EVENT THAT WAS JUDGED
+-- AN EVENT THAT WAS COUNTED
 
-pub event_done : (m : Monitor) (x : Event) (old new : Watcher) (n : ℕ)
-    (result : Result (Unit {0}) Stop) → IsJudged m x new.monitor (Ok tt)
-    → invokes_cells x.action ≡ false → new.follower ≡ old.follower → new.number ≡ old.number
+pub event_done : (m : Option Monitor) (x : Event) (old new : Watcher) (n : ℕ)
+    (result : Result (Unit {0}) Stop)
+    → JudgedBy (monitor_at x.action m) old.kept x new.monitor (Ok tt) → KeepsText old new
     → ((events : List Event) (r : RecordingModel) → HasEvents events old.follower
     → stage_with_events events old.follower ≡ Running r
     → n ≡ length (pending_calls (reverse events)))
     → OnOk result (new.load.calls ≡ old.load.calls + invocation_count x.action)
     → OnOk result (new.load.others ≡ old.load.others + others_at x.action n)
     → new.load.histories ≡ old.load.histories → IfErr result (λ stop. stop ≡ stops.Memory)
-    → IsEventJudged m x old new result
-event_done m x old new n (Ok u) j plain same count pending calls others histories memory = (
-  j.0,
-  j.1,
-  j.2,
+    → IsEventTaken m x old new result
+event_done m x old new n (Ok u) judged keeps pending calls others histories memory = (
+  judged,
   λ events r seen at. record {
     histories = histories;
     calls = calls;
     others = others
         ∙ ap (λ (k : ℕ). old.load.others + others_at x.action k) (pending events r seen at);
   },
-  same,
-  count,
-  plain,
+  keeps,
 )
-event_done m x old new n (Err stops.Memory) j plain same count pending calls others histories memory =
-    tt
-event_done m x old new n (Err stops.NotWatched) j plain same count pending calls others histories
-    memory = absurd (let never : ⊥ = cc in never)
-event_done m x old new n (Err (stops.Unread f)) j plain same count pending calls others histories
-    memory = absurd (let never : ⊥ = cc in never)
-event_done m x old new n (Err (stops.Refused y report)) j plain same count pending calls others
-    histories memory = absurd (let never : ⊥ = cc in never)
+event_done m x old new n (Err stop) judged keeps pending calls others histories memory = inr memory

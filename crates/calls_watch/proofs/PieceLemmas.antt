@@ -1,11 +1,11 @@
 -- Lines that come in pieces.
 use Rattle.std.proofs.Common.{◌≡◌, ◌≢◌, ◌<◌, ℕ, Bool, true, false, cond, eqb, List, [], ◌∷◌, ◌++◌, length}
 use Rattle.std.proofs.Common.{Option, Some, None, Result, Ok, Err, refl, ap, sym, ◌∙◌, subst, arith}
-use Rattle.std.proofs.Common.{append_assoc, append-nil, length-append, ne_eqb}
+use Rattle.std.proofs.Common.{append_assoc, append-nil, length-append}
 use Rattle.std.specs.List.{All, onto_first}
 use Rattle.std.specs.Io.KnownBytes.{Consumes}
 use Rattle.std.proofs.lemmas.List.Splits.{slice_split_at, slice_split_none, slice_split-cons_no}
-use Rattle.std.proofs.lemmas.List.Elements.{All-weaker, All-append, All-nil, All-head, All-tail}
+use Rattle.std.proofs.lemmas.List.Elements.{All-append, All-nil, All-head, All-tail}
 use Rattle.calls_text.specs.Outcomes.{lines_of_text}
 use Rattle.calls_watch.specs.declared.feeder.Feeder.{Feeder}
 use Rattle.calls_watch.specs.declared.stop.Stop.{Stop}
@@ -13,10 +13,7 @@ use Rattle.calls_watch.specs.declared.watcher.Watcher.{Watcher}
 use Rattle.calls_watch.specs.kept.Watching.{IsWatching, Stops, StateAfterLine, IsFed, Feeds}
 use Rattle.calls_watch.specs.kept.Watching.{GathersTo, FedFrom}
 use Rattle.ec_text.proofs.shared.WordLemmas.{onto_has}
-
-no_lf : (bytes : List ℕ) → All (λ b. b ≢ 10) bytes → All (λ b. eqb b 10 ≡ false) bytes
-no_lf bytes none = All-weaker (λ b. b ≢ 10) (λ b. eqb b 10
-    ≡ false) (λ b apart. ne_eqb b 10 apart) bytes none
+use Rattle.calls_watch.proofs.TextLemmas.{no_lf}
 
 pub parts_line : (line more : List ℕ) → All (λ b. b ≢ 10) line
     → lines_of_text (line ++ 10 ∷ more) ≡ line ∷ lines_of_text more

@@ -1,7 +1,8 @@
 -- What `watch` returned and wrote, for an input whose bytes are known.
 use Rattle.std.specs.Prelude.{◌≡◌, ◌<◌, ◌⊎◌, ℕ, ◌-◌, List, [], ◌∷◌, length, reverse}
-use Rattle.std.specs.Prelude.{Ok, Bool, true, false, codes, ◌++◌}
+use Rattle.std.specs.Prelude.{Ok, Bool, true, false, codes}
 use Rattle.std.specs.Io.KnownBytes.{Appends}
+use Rattle.ec_heading.specs.Spelling.{lines_text}
 use Rattle.ec_text.specs.Puts.{OutputModel, Puts, AppendsPrefix}
 use Rattle.calls_core.specs.declared.history.Kind.{Kind}
 use Rattle.calls_core.specs.declared.history.Op.{Op}
@@ -16,7 +17,7 @@ use Rattle.calls_monitor.specs.declared.object.Refusal.{Refusal}
 use Rattle.calls_monitor.specs.declared.object.Refusal.TheVariants as refusals
 use Rattle.calls_monitor.specs.Monitors.{IsRefused}
 use Rattle.calls_text.specs.Recordings.{RecordingModel, IsRecording}
-use Rattle.calls_text.specs.Reading.{Opening, Running}
+use Rattle.calls_text.specs.Reading.{Stage, Opening, Running, Ended}
 use Rattle.calls_text.specs.Outcomes.{OneRead, parse_from, lines_of_text}
 use Rattle.calls_text.specs.Following.{IsReached}
 use Rattle.calls_report.specs.declared.certificate.Certificate.{Certificate}
@@ -25,11 +26,12 @@ use Rattle.calls_report.specs.declared.status.Status.{Status}
 use Rattle.calls_report.specs.declared.status.Status.TheVariants.{Done, Refused, Usage}
 use Rattle.calls_report.specs.declared.status.Status.TheVariants.{InputOutput, Memory, NotDecided}
 use Rattle.calls_report.specs.Certificates.{start_at}
-use Rattle.calls_report.specs.Notes.{line_words, site_at, refusal_note}
-use Rattle.calls_report.specs.Checks.{Outputs, SaysUnread}
+use Rattle.calls_report.specs.declared.checking.TheConstants.{TEXT_MAX}
+use Rattle.calls_report.specs.Notes.{site_at, refusal_note}
+use Rattle.calls_report.specs.Checks.{Outputs, SaysUnread, SaysRefused, SaysOpen}
 use Rattle.calls_watch.specs.Loads.{summary_of}
 
--- CALLS OF CELLS
+-- CALLS OF CELLS, DATABASES AND BUFFERS
 
 -- whether a call is one of a cell, a database or a buffer
 abbrev pub is_of_cells : Op → Bool
@@ -44,19 +46,21 @@ abbrev pub invokes_cells : Action → Bool
 invokes_cells (Invoke k op) = is_of_cells op
 invokes_cells (Respond r) = false
 
--- none of the events does
+-- none of the events does: each of them is judged when its line comes
 abbrev pub AreWatched : List Event → Type 0
 AreWatched [] = Unit {0}
 AreWatched (x ∷ past) = (invokes_cells x.action ≡ false) × AreWatched past
 
+-- one of the events of the history does
+abbrev pub CallsCells : RecordingModel → Type 0
+CallsCells r = AreWatched (reverse r.events) → ⊥
+
 -- HISTORIES, ONE AFTER ANOTHER
 
--- these are the objects of the history, no cell, database or buffer is called, and it has a
--- linearization
+-- these are the objects of the history, and it has a linearization
 pub record IsGood (r : RecordingModel) : Type 0 where
   pub kinds : List Kind
   pub recording : IsRecording r kinds
-  pub watched : AreWatched (reverse r.events)
   pub linearizable : IsLinearizable kinds (reverse r.events)
 
 -- ps are the parts of the text from line n on: first these histories, each linearizable, and then
@@ -86,8 +90,8 @@ refused_note m r x report =
     refusal_note (site_at r report.object (line_of_first m x.at) x.at)
     (shown_by r report.object report.refusal)
 
--- from line n on the lines lead to a history whose last event is x, and whose events before it have
--- a linearization. Line m is the next
+-- from line n on the lines lead to a history whose last event is x. The events before it call no
+-- cell, database or buffer, and have a linearization. Line m is the next
 pub record IsUpTo (n : ℕ) (ps : List (List ℕ)) (m : ℕ) (r : RecordingModel) (kinds : List Kind)
     (past : List Event) (x : Event) : Type 0 where
   pub next : List ℕ
@@ -112,37 +116,55 @@ SaysStopped n ps old new =
     (m : ℕ) × (r : RecordingModel) × (x : Event) × (report : Report) × IsStopped n ps m r x report
     × Puts old new (refused_note m r x report)
 
--- the event invokes a call of a cell, a database or a buffer
-pub record IsUnwatched (n : ℕ) (ps : List (List ℕ)) (m : ℕ) : Type 0 where
+-- the history from line n on calls a cell, a database or a buffer. It has no linearization, and a
+-- note says why
+abbrev pub SaysRefusedAtEnd : ℕ → List (List ℕ) → OutputModel → OutputModel → Type 0
+SaysRefusedAtEnd n ps old new = (s : SaysRefused n ps old new) × CallsCells s.0.recorded
+
+-- this history, or this prefix of one, was read up to this stage
+abbrev pub IsReadAt : Stage → RecordingModel → Type 0
+IsReadAt (Running r) read = r ≡ read
+IsReadAt (Ended r) read = r ≡ read
+IsReadAt _ read = ⊥
+
+-- from line n on the first lines are those of a history, or of a prefix of one, which calls a cell,
+-- a database or a buffer
+pub record HasCells (n : ℕ) (ps : List (List ℕ)) : Type 0 where
+  pub stage : Stage
+  pub number : ℕ
+  pub next : List ℕ
+  pub left : List (List ℕ)
+  pub reached : IsReached n ps stage number (next ∷ left)
   pub recorded : RecordingModel
-  pub event : Event
-  pub kinds : List Kind
-  pub past : List Event
-  pub up_to : IsUpTo n ps m recorded kinds past event
-  pub cells : invokes_cells event.action ≡ true
+  pub is : IsReadAt stage recorded
+  pub cells : CallsCells recorded
 
--- the note on it, if line m is the next
-abbrev pub unwatched_note : ℕ → List ℕ
-unwatched_note m =
-    line_words (m - 1)
-    ++ codes "cells, databases and buffers are not watched: evc-calls check decides them\n"
-
-abbrev pub SaysUnwatched : ℕ → List (List ℕ) → OutputModel → OutputModel → Type 0
-SaysUnwatched n ps old new =
-    (m : ℕ) × IsUnwatched n ps m × Puts old new (unwatched_note m)
+-- such lines have more than TEXT_MAX bytes, and a note says so
+abbrev pub SaysTooLarge : ℕ → List (List ℕ) → OutputModel → OutputModel → Type 0
+SaysTooLarge n ps old new =
+    (c : HasCells n ps) × (TEXT_MAX < length (lines_text c.reached.lines))
+    × Puts old new (codes "too large\n")
 
 -- ALL OF IT
 
--- how `watch` ended after these histories, at the parts from line m on
+-- a note says why the text is rejected at the parts from line m on
+abbrev pub Rejects : ℕ → List (List ℕ) → OutputModel → OutputModel → Type 0
+Rejects m qs old new =
+    SaysUnread m qs old new
+    ⊎ (SaysStopped m qs old new ⊎ (SaysRefusedAtEnd m qs old new ⊎ SaysTooLarge m qs old new))
+
+-- how `watch` ended after these histories, at the parts from line m on. Done: the text ends, after
+-- at least one history; Refused: it is not a text of histories, or a history has no linearization,
+-- as an event shows when its line comes, or as is found at its end; or it is too large. NotDecided:
+-- a history is not decided; Memory: memory ran out
 abbrev pub Ends : Status → List OneRead → ℕ → List (List ℕ) → Outputs → Outputs → Type 0
 Ends Done reads m qs old new =
     (0 < length reads) × (qs ≡ [] ∷ []) × Appends old.out new.out (summary_of reads)
     × (new.notes ≡ old.notes)
 Ends Refused reads m qs old new =
-    (new.out ≡ old.out) × (SaysUnread m qs old.notes new.notes
-    ⊎ SaysStopped m qs old.notes new.notes)
+    (new.out ≡ old.out) × Rejects m qs old.notes new.notes
 Ends NotDecided reads m qs old new =
-    (new.out ≡ old.out) × SaysUnwatched m qs old.notes new.notes
+    (new.out ≡ old.out) × SaysOpen m qs old.notes new.notes
 Ends Memory reads m qs old new =
     (new.out ≡ old.out) × Puts old.notes new.notes (codes "no memory\n")
 Ends InputOutput reads m qs old new =

@@ -19,11 +19,11 @@ pub(crate) struct Feeder {
 
 impl Feeder {
     /// Returns the state before the first byte.
-    pub(crate) fn new() -> Feeder
+    pub(crate) fn new(alloc: Global) -> Feeder
         ensures { (bytes : List ℕ) → IsFed (lines_of_text bytes) bytes result }
     {
         Feeder {
-            watcher: Watcher::new(),
+            watcher: Watcher::new(alloc),
             part: ArrayVec::new(),
         }
     }

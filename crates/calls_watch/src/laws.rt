@@ -1,9 +1,10 @@
 //! Theorems on `watch` and `check`. Each is the contract of an empty function.
 ghost use Rattle.calls_watch.specs.Laws.{WatchAgreesWithCheck, BothRefuseOneEvent};
 
-/// States that `watch` and `check` find a fault in the same texts.
+/// States that `watch` and `check` agree on each text, if neither runs out of memory.
 ///
-/// This holds if neither runs out of memory and all calls are watched.
+/// If no cell, database or buffer is called, they find a fault in the same texts. Otherwise a text
+/// that one of them rejects may be not decided by the other, but is not accepted.
 pub fn watch_agrees_with_check()
     ensures { WatchAgreesWithCheck }
 {}

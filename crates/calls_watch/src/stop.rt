@@ -1,17 +1,21 @@
-//! Why a history is not watched further.
+//! Why a text is not watched further.
 use calls_core::Event;
 use calls_monitor::Refused;
 use calls_text::TextFault;
 
-/// Why a history is not watched further.
+/// Why a text is not watched further.
 #[derive(Clone, Copy, Debug, PartialEq, Eq)]
 pub enum Stop {
     /// A line is at fault, or the text ends too early.
     Unread(TextFault),
     /// With this event the history has no linearization.
     Refused(Event, Refused),
-    /// A cell or a database is called.
-    NotWatched,
+    /// The history was decided at its end, and has no linearization.
+    RefusedAtEnd,
+    /// The history is not decided.
+    NotDecided,
+    /// The history calls a cell, a database or a buffer, and has more than `TEXT_MAX` bytes.
+    TooLarge,
     /// An allocation failed, or a number would overflow.
     Memory,
 }

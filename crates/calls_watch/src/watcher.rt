@@ -8,27 +8,38 @@ ghost use Rattle.calls_text.specs.Reading.{Running};
 ghost use Rattle.calls_text.specs.Recordings.{RecordingModel};
 ghost use Rattle.calls_text.specs.Following.{stage_with_events, HasEvents};
 ghost use Rattle.calls_watch.specs.Watches.{invokes_cells};
-ghost use Rattle.calls_watch.specs.kept.Watching.{IsWatching, StateAfterLine, EndsAs, Stops, IsJudged};
-ghost use Rattle.calls_watch.specs.kept.Watching.{Begins, IsEventJudged, IsBegunAgain, GoesOnBy};
-ghost use Rattle.calls_watch.specs.kept.Watching.{MayEnd, GoesOnAt};
+ghost use Rattle.calls_watch.specs.kept.Texts.{is_cells, declares_cells};
+ghost use Rattle.calls_watch.specs.kept.Watching.{IsWatching, StateAfterLine, EndsAs, Stops, JudgedBy};
+ghost use Rattle.calls_watch.specs.kept.Watching.{Begins, IsEventTaken, Decides, DecidesUnjudged};
+ghost use Rattle.calls_watch.specs.kept.Watching.{IsBegunAgain, EndsHistory, GoesOnBy, MayEnd, GoesOnAt, monitor_at};
 
+use crate::kept::Kept;
 use crate::load::Load;
 use crate::stop::Stop;
-use calls_core::{Action, Event, Op};
+use crate::whole::{DecidedHistory, decide_text, outcome_of};
+use calls_core::{Action, Event, Kind, Op};
 use calls_monitor::{Monitor, Rejection};
 use calls_text::{Follower, HistoryLine};
 use std::alloc::Global;
 
 /// The state of `watch`, after some lines of a text.
 ///
-/// The histories so far are linearizable, and so is the prefix of the next one that was read. The
-/// state does not grow with the text.
+/// The histories so far are linearizable. Of the next one a prefix was read. It is linearizable,
+/// unless it calls a cell, a database or a buffer: then its text is kept, and it is decided at its
+/// end. Apart from this text the state does not grow.
 #[derive(Drop)]
 pub struct Watcher {
     pub(crate) follower: Follower,
+    /// Judges each event, up to the first call of a cell, a database or a buffer.
     pub(crate) monitor: Option<Monitor>,
+    /// The number of the next line.
     pub(crate) number: u64,
     pub(crate) load: Load,
+    /// The number of the first line of the history.
+    pub(crate) first: u64,
+    pub(crate) kept: Kept,
+    /// The last history that was decided at its end.
+    pub(crate) decided: Option<DecidedHistory>,
 }
 
 /// Returns whether an event invokes a call of a cell, a database or a buffer.
@@ -43,12 +54,47 @@ fn invokes_cells(action: Action) -> bool
     }
 }
 
-/// Judges an event by the monitor.
-fn judge(monitor: &mut Option<Monitor>, event: Event) -> Result<(), Stop>
-    ensures { (m : Monitor) → monitor.old ≡ Some m → IsJudged m event monitor.new result }
+/// Returns whether an object is a cell, a database or a buffer.
+///
+/// A semaphore counts as a database without cells, and is not meant.
+fn is_cells(kind: &Kind) -> bool
+    ensures { result ≡ is_cells kind.now }
+{
+    match kind {
+        Kind::Cell | Kind::Buffer(_) => true,
+        Kind::Database(cells) => *cells > 0,
+        Kind::Eventcount(_) | Kind::Sequencer | Kind::Semaphores(_) => false,
+    }
+}
+
+/// Returns whether one of the objects is a cell, a database or a buffer.
+fn declares_cells(kinds: &[Kind]) -> bool
+    ensures { result ≡ declares_cells kinds.now }
+{
+    match kinds {
+        [] => false,
+        [kind, rest @ ..] => is_cells(kind) || declares_cells(rest),
+    }
+}
+
+/// Drops the monitor if the event invokes a call of a cell, a database or a buffer.
+fn drop_monitor(monitor: &mut Option<Monitor>, action: Action)
+    ensures { monitor.new ≡ monitor_at action monitor.old }
+{
+    if invokes_cells(action) {
+        *monitor = None;
+    }
+}
+
+/// Judges an event by the monitor. Without one the text has to be kept.
+fn judge(monitor: &mut Option<Monitor>, kept: &Kept, event: Event) -> Result<(), Stop>
+    ensures { JudgedBy monitor.old kept.now event monitor.new result }
 {
     let Some(watching) = monitor else {
-        return Err(Stop::Memory);
+        return match kept.text() {
+            Ok(_) => Ok(()),
+            Err(stop) => Err(stop),
+        };
     };
     match watching.event(event) {
         Ok(()) => Ok(()),
@@ -60,7 +106,7 @@ fn judge(monitor: &mut Option<Monitor>, event: Event) -> Result<(), Stop>
 
 impl Watcher {
     /// Returns the state before the first line.
-    pub fn new() -> Watcher
+    pub fn new(alloc: Global) -> Watcher
         ensures { (ps : List (List ℕ)) → IsWatching ps ps result }
     {
         Watcher {
@@ -68,6 +114,9 @@ impl Watcher {
             monitor: None,
             number: 1,
             load: Load::none(),
+            first: 1,
+            kept: Kept::new(alloc),
+            decided: None,
         }
     }
 
@@ -86,33 +135,76 @@ impl Watcher {
         let Some(recording) = self.follower.recording() else {
             return Err(Stop::Memory);
         };
+        let needed = declares_cells(recording.kinds());
         let Ok(monitor) = Monitor::open(alloc, recording.kinds()) else {
             return Err(Stop::Memory);
         };
         self.monitor = Some(monitor);
+        self.kept.keep_if(needed);
         Ok(())
     }
 
-    /// Judges an event, and counts it.
+    /// Judges an event, if there is a monitor, and counts it.
     fn event(&mut self, event: Event) -> Result<(), Stop>
-        ensures { (m : Monitor) → self.old.monitor ≡ Some m
-            → IsEventJudged m event self.old self.new result }
+        ensures { IsEventTaken self.old.monitor event self.old self.new result }
     {
-        if invokes_cells(event.action) {
-            return Err(Stop::NotWatched);
-        }
-        judge(&mut self.monitor, event)?;
+        drop_monitor(&mut self.monitor, event.action);
+        judge(&mut self.monitor, &self.kept, event)?;
         self.load.add_event(event.action, self.follower.pending())
     }
 
+    /// Decides the history that has ended, whose text is kept.
+    fn decide(&mut self, alloc: Global) -> Result<(), Stop>
+        ensures decides { Decides self.old self.new result }
+        ensures number { self.new.number ≡ self.old.number }
+        ensures load { self.new.load ≡ self.old.load }
+    {
+        let text = match self.kept.text() {
+            Ok(text) => text,
+            Err(stop) => return Err(stop),
+        };
+        let decided = match decide_text(alloc, text, self.first) {
+            Ok(decided) => decided,
+            Err(stop) => return Err(stop),
+        };
+        let outcome = outcome_of(&decided.verdict);
+        self.decided = Some(decided);
+        outcome
+    }
+
+    /// Decides the history that has ended, unless each of its events was judged.
+    fn decide_unjudged(&mut self, alloc: Global) -> Result<(), Stop>
+        ensures decides { DecidesUnjudged self.old.monitor self.old self.new result }
+        ensures number { self.new.number ≡ self.old.number }
+        ensures load { self.new.load ≡ self.old.load }
+    {
+        if self.monitor.is_some() {
+            return Ok(());
+        }
+        self.decide(alloc)
+    }
+
     /// Counts a history that has ended, and prepares for the next one.
-    fn end_history(&mut self) -> Result<(), Stop>
+    fn begin_again(&mut self, alloc: Global) -> Result<(), Stop>
         ensures { IsBegunAgain self.old self.new result }
     {
         self.load.add_history()?;
         self.follower = Follower::new();
         self.monitor = None;
+        self.first = self.number;
+        self.kept = Kept::new(alloc);
+        self.decided = None;
         Ok(())
+    }
+
+    /// Ends a history.
+    fn end_history(&mut self, alloc: Global) -> Result<(), Stop>
+        ensures { EndsHistory self.old.monitor self.old self.new result }
+    {
+        if let Err(stop) = self.decide_unjudged(alloc) {
+            return Err(stop);
+        }
+        self.begin_again(alloc)
     }
 
     /// Updates the state by the kind of the line.
@@ -123,7 +215,7 @@ impl Watcher {
             HistoryLine::Heading => Ok(()),
             HistoryLine::Run => self.begin(alloc),
             HistoryLine::Event(event) => self.event(event),
-            HistoryLine::End => self.end_history(),
+            HistoryLine::End => self.end_history(alloc),
         }
     }
 
@@ -141,6 +233,9 @@ impl Watcher {
             return Err(Stop::Memory);
         };
         self.number = next;
+        let Ok(()) = self.kept.push(line) else {
+            return Err(Stop::Memory);
+        };
         self.go_on(alloc, followed)
     }
 

@@ -1,26 +1,30 @@
-//! `watch`: reads histories of calls, and judges each event when its line comes.
-ghost use Rattle.std.specs.Prelude.{◌≡◌, ◌≤◌, ◌++◌, List, ℕ, Option, IfSome, length, take};
+//! `watch`: reads histories of calls, and judges each event when its line comes, or at the end of
+//! its history.
+ghost use Rattle.std.specs.Prelude.{◌≡◌, ◌≤◌, ◌++◌, List, ℕ, Option, IfSome, Some, length, take, codes};
 ghost use Rattle.ec_text.specs.Puts.{Puts, IsWrittenOut};
 ghost use Rattle.calls_core.specs.declared.history.Event.{Event};
 ghost use Rattle.calls_text.specs.Reading.{Running};
 ghost use Rattle.calls_text.specs.Recordings.{RecordingModel};
 ghost use Rattle.calls_text.specs.Following.{stage_with_events};
-ghost use Rattle.calls_report.specs.declared.status.Status.TheVariants.{NotDecided};
+ghost use Rattle.calls_report.specs.declared.status.Status.TheVariants.{Memory};
+ghost use Rattle.calls_watch.specs.declared.whole.DecidedHistory.{DecidedHistory};
 ghost use Rattle.calls_watch.specs.Loads.{load_text};
-ghost use Rattle.calls_watch.specs.Watches.{Watches, line_of_first, refused_note, unwatched_note};
+ghost use Rattle.calls_watch.specs.Watches.{Watches, line_of_first, refused_note};
 ghost use Rattle.calls_watch.specs.kept.Watching.{FedFrom, IsFed, Feeds, Stops};
-ghost use Rattle.calls_watch.specs.kept.Endings.{ReadsOn, ReadsAll, WritesLoad, SaysRefused};
-ghost use Rattle.calls_watch.specs.kept.Endings.{SaysStop};
+ghost use Rattle.calls_watch.specs.kept.Endings.{ReadsOn, ReadsAll, WritesLoad, SaysNote};
+ghost use Rattle.calls_watch.specs.kept.Endings.{SaysVerdict, SaysStop};
 
 use crate::feeder::Feeder;
 use crate::load::Load;
 use crate::shown::shown_by;
 use crate::stop::Stop;
 use crate::watcher::Watcher;
+use crate::whole::DecidedHistory;
 use arrayvec::ArrayVec;
 use calls_core::Event;
 use calls_monitor::Refused;
-use calls_report::{Status, note_unread, report_certificate};
+use calls_report::{Status, note_unread, report_certificate, report_refusal, report_undecided};
+use calls_verdict::Verdict;
 use ec_text::{Output, read_piece};
 use std::alloc::Global;
 use std::io::{Read, Write};
@@ -120,6 +124,16 @@ fn line_of_first(number: u64, at: usize) -> u64
     number.saturating_sub(1).saturating_sub(at as u64)
 }
 
+/// Reports that memory ran out.
+fn report_memory<N: Write>(notes: &mut Output<'_, N>) -> Status
+    ensures status { result ≡ Memory }
+    ensures puts { Puts notes.old notes.new (codes "no memory\n") }
+    ensures written { IsWrittenOut notes.new }
+{
+    notes.say(b"no memory\n");
+    Status::Memory
+}
+
 /// Reports that a history has no linearization from an event on.
 fn report_refused<N: Write>(
     watcher: &Watcher,
@@ -129,7 +143,8 @@ fn report_refused<N: Write>(
 ) -> Status
     ensures says { (events : List Event) (r : RecordingModel)
         → stage_with_events events watcher.now.follower ≡ Running r
-        → SaysRefused result (refused_note watcher.now.number r event refused) notes.old notes.new }
+        → SaysNote result (refused_note watcher.now.number r event refused) notes.old
+        notes.new }
     ensures written { IsWrittenOut notes.new }
 {
     let Some(recording) = watcher.follower.recording() else {
@@ -143,21 +158,55 @@ fn report_refused<N: Write>(
     Status::Refused
 }
 
-/// Reports that a call is not watched. `number` is that of the line after it.
-fn report_unwatched<N: Write>(number: u64, notes: &mut Output<'_, N>) -> Status
-    ensures status { result ≡ NotDecided }
-    ensures puts { Puts notes.old notes.new (unwatched_note number) }
+/// Reports that a history which was decided at its end has no linearization, or is not decided.
+fn report_verdict<N: Write>(
+    alloc: Global,
+    history: &DecidedHistory,
+    notes: &mut Output<'_, N>,
+) -> Status
+    ensures says { SaysVerdict history.now.verdict history.now.read.number
+        history.now.read.recording result notes.old notes.new }
     ensures written { IsWrittenOut notes.new }
 {
-    notes.put(b"line ");
-    notes.put_number(number.saturating_sub(1));
-    notes.put(b": ");
-    notes.say(b"cells, databases and buffers are not watched: evc-calls check decides them\n");
-    Status::NotDecided
+    match &history.verdict {
+        Verdict::Refused(refusal) => {
+            match report_refusal(alloc, notes, &history.read, refusal) {
+                Ok(()) => Status::Refused,
+                Err(_) => report_memory(notes),
+            }
+        }
+        Verdict::NotDecided(undecided) => {
+            report_undecided(notes, &history.read, undecided);
+            Status::NotDecided
+        }
+        Verdict::Linearizable(_) => report_memory(notes),
+    }
+}
+
+/// Reports the verdict on the history that was decided at its end, and returns the status.
+fn report_decided<N: Write>(
+    alloc: Global,
+    decided: &Option<DecidedHistory>,
+    notes: &mut Output<'_, N>,
+) -> Status
+    ensures says { (history : DecidedHistory) → decided.now ≡ Some history
+        → SaysVerdict history.verdict history.read.number history.read.recording result notes.old
+        notes.new }
+    ensures written { IsWrittenOut notes.new }
+{
+    match decided {
+        Some(history) => report_verdict(alloc, history, notes),
+        None => report_memory(notes),
+    }
 }
 
 /// Reports why a text is not watched further, and returns the status.
-pub fn report_stop<N: Write>(watcher: &Watcher, stop: Stop, notes: &mut Output<'_, N>) -> Status
+pub fn report_stop<N: Write>(
+    alloc: Global,
+    watcher: &Watcher,
+    stop: Stop,
+    notes: &mut Output<'_, N>,
+) -> Status
     ensures says { (ps : List (List ℕ)) → Stops stop ps watcher.now
         → SaysStop ps result notes.old notes.new }
     ensures written { IsWrittenOut notes.new }
@@ -165,11 +214,13 @@ pub fn report_stop<N: Write>(watcher: &Watcher, stop: Stop, notes: &mut Output<'
     match stop {
         Stop::Unread(fault) => note_unread(fault, notes),
         Stop::Refused(event, refused) => report_refused(watcher, event, refused, notes),
-        Stop::NotWatched => report_unwatched(watcher.number, notes),
-        Stop::Memory => {
-            notes.say(b"no memory\n");
-            Status::Memory
+        Stop::RefusedAtEnd => report_decided(alloc, &watcher.decided, notes),
+        Stop::NotDecided => report_decided(alloc, &watcher.decided, notes),
+        Stop::TooLarge => {
+            notes.say(b"too large\n");
+            Status::Refused
         }
+        Stop::Memory => report_memory(notes),
     }
 }
 
@@ -179,8 +230,10 @@ pub fn report_stop<N: Write>(watcher: &Watcher, stop: Stop, notes: &mut Output<'
 /// the end of the text it writes how many histories and calls there were. It also writes how many
 /// other calls are pending on average when one is invoked.
 ///
-/// The state does not grow with the text. Calls of cells, databases and buffers are not watched:
-/// the first one ends it. A read that fails is not tried again.
+/// From the first call of a cell, a database or a buffer on, the rest of the history is only read,
+/// and at its end the whole history is decided, as by `check`. The text of such a history is kept,
+/// up to 67108864 bytes. Apart from this the state does not grow with the text. A read that fails
+/// is not tried again.
 pub fn watch<R: Read, W: Write, N: Write>(
     alloc: Global,
     reader: &mut R,
@@ -192,13 +245,13 @@ pub fn watch<R: Read, W: Write, N: Write>(
         (record { out = W.contents out.new; notes = notes.new })) }
     ensures written { IsWrittenOut notes.old → IsWrittenOut notes.new }
 {
-    let mut feeder = Feeder::new();
+    let mut feeder = Feeder::new(alloc);
     match read_all(alloc, reader, &mut feeder) {
         Ok(()) => write_load(feeder.watcher.load, out, notes),
         Err(EarlyEnd::Read) => {
             notes.say(b"read fault\n");
             Status::InputOutput
         }
-        Err(EarlyEnd::Stop(stop)) => report_stop(&feeder.watcher, stop, notes),
+        Err(EarlyEnd::Stop(stop)) => report_stop(alloc, &feeder.watcher, stop, notes),
     }
 }

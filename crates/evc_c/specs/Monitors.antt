@@ -34,7 +34,7 @@ IsOpen m = (m.stage ≡ Open) × HasTaken [] m.watcher
 
 abbrev pub stop_status : Stop → Status
 stop_status (stops.Unread faults.Memory) = Memory
-stop_status stops.NotWatched = NotDecided
+stop_status stops.NotDecided = NotDecided
 stop_status stops.Memory = Memory
 stop_status stop = Refused
 

@@ -12,9 +12,9 @@ use Rattle.evc_c.specs.declared.monitor.Monitor.{Monitor}
 abbrev pub monitor_size : ℕ
 monitor_size = size (lone the_row.mir)
 
--- the size of a monitor in evc.h, in bytes: 1024 words of 8 bytes
+-- the size of a monitor in evc.h, in bytes: 1280 words of 8 bytes
 abbrev pub room_size : ℕ
-room_size = 1024 * 8
+room_size = 1280 * 8
 
 -- memory for a monitor is at this pointer
 abbrev pub room_for_monitor : Ptr → Fml

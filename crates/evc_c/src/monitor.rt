@@ -48,7 +48,8 @@ fn status_at(stage: Stage) -> Status
     match stage {
         Stage::Open => Status::Done,
         Stage::Stopped(Stop::Unread(TextFault::At { .. }) | Stop::Refused(_, _)) => Status::Refused,
-        Stage::Stopped(Stop::NotWatched) => Status::NotDecided,
+        Stage::Stopped(Stop::RefusedAtEnd | Stop::TooLarge) => Status::Refused,
+        Stage::Stopped(Stop::NotDecided) => Status::NotDecided,
         Stage::Stopped(Stop::Unread(TextFault::Memory) | Stop::Memory) => Status::Memory,
         Stage::Ended | Stage::Closed => Status::Usage,
     }
@@ -68,7 +69,7 @@ impl Monitor {
     {
         for_any_thread(Monitor {
             alloc,
-            watcher: Watcher::new(),
+            watcher: Watcher::new(alloc),
             stage: Stage::Open,
         })
     }
@@ -116,7 +117,7 @@ impl Monitor {
         };
         let mut bytes = Noted::new();
         let mut note_text = Output::new(&mut bytes);
-        report_stop(&self.watcher, stop, &mut note_text);
+        report_stop(self.alloc, &self.watcher, stop, &mut note_text);
         copy_prefix(room, note_text.into_writer().as_slice())
     }
 
@@ -136,7 +137,7 @@ impl Monitor {
     {
         *self = Monitor {
             alloc: self.alloc,
-            watcher: Watcher::new(),
+            watcher: Watcher::new(self.alloc),
             stage: Stage::Closed,
         };
     }

@@ -38,7 +38,7 @@ pub(crate) const AFTER_HELP: &str = "Exit status:
      says why
   3  a read or a write failed
   4  out of memory
-  5  a history is not decided: a note says which cell, and why; or it is not watched further";
+  5  a history is not decided: a note says which cell or buffer, and why";
 
 pub(crate) const CHECK_ABOUT: &str =
     "Writes a linearization of each history, or a note that says why there is none";
@@ -86,17 +86,17 @@ pub(crate) const WATCH_ABOUT: &str = "Judges each event when its line comes, in 
 pub(crate) const WATCH_LONG_ABOUT: &str =
     "Judges each event when its line comes, in constant memory.
 
-It reads the output of a program that still runs, for example through a pipe, and keeps no history.
-The first event with which a history is not linearizable ends it at once, with a note. At the end it
-writes one line: how many histories and calls there were, and how many other calls are pending on
-average when one is called, to two decimals, cut off:
+It reads the output of a program that still runs, for example through a pipe. The first event with
+which a history is not linearizable ends it at once, with a note. At the end it writes one line: how
+many histories and calls there were, and how many other calls are pending on average when one is
+called, to two decimals, cut off:
 
     2 histories, 1200 calls, overlap 1.37
 
-Calls that rarely overlap test little. The bound on the length of a text does not hold here. No
-order is written, and no remark. Calls of cells, databases and buffers are not watched: the first
-one ends the command with status 5. For a note with all the lines that show the fault, record the
-text and run `evc-calls check` on it.";
+Calls that rarely overlap test little. No order is written, and no remark. The first call of a cell,
+a database or a buffer is different: from it on the history is only read, and at its end decided, as
+by `check`. Its text is kept, up to 64 MiB; other histories are not, and have any length. For a note
+with all the lines that show the fault, record the text and run `evc-calls check` on it.";
 
 pub(crate) const FILE: &str =
     "The file with the histories; without it they are read from standard input";

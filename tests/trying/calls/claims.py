@@ -446,7 +446,7 @@ class Claim:
 
     def closed(self, text, flow, room):
         """Returns the index of the item for which it is too early, and checks how much room there is."""
-        number, *others = map(int, re.findall("[0-9]+", text))
+        number, *others = map(int, re.findall("[0-9]+", re.sub("^no (produce|consume)", "0", text)))
         need(others == ([room] if flow == "in" else []), "there is other room")
         return number + room if flow == "in" else number
 
@@ -488,7 +488,7 @@ class Claim:
         is_known = is_taken_in_turn(puts) if flow == "out" else is_put_in_turn(puts, takes, asked)
         need(is_known, "the order of the items is not known")
         steps = [self.step(step, flow, room) for step in words["steps"].split("; ") if step]
-        is_closed = "no more than" in text
+        is_closed = "had been called by then" in text
         clash = self.closed(text, flow, room) if is_closed else self.shortages(text, flow, steps[-1][0])
         clash = self.crowd(crowd, clash) if crowd else clash
         turns, takers = turns_of(flow, puts, takes, asked, room, self.at + 1)

@@ -43,8 +43,8 @@ SHORTAGE = (
     f" and {FEW_CALLS} of it had been called by line {NUMBER}"
 )
 CLASH = (
-    f"(?:no more than {PRODUCES} had been called by then"
-    f"|no more than {CONSUMES} had been called by then, with room for {NUMBER}"
+    f"(?:(?:no produce|no more than (?!0 ){PRODUCES}) had been called by then"
+    f"|(?:no consume|no more than (?!0 ){CONSUMES}) had been called by then, with room for {NUMBER}"
     f"|{SHORTAGE}(?:; {SHORTAGE})*"
     f"(?:; and only (?!0 ){COUNTED.format('pending consume')} had been called by line {NUMBER})?)"
 )

@@ -8,8 +8,6 @@ from trying.calls.reader import Reader, scan
 from trying.calls.theorems import fault_by_theorem, givers, least_of, made_between, most_of, readers, takers
 from trying.counting import Fault, need
 
-UNWATCHED = "cells, databases and buffers are not watched: evc-calls check decides them"
-
 SURE = re.compile(
     f"{RETURNED}, but when it was called \\(line (?P<L>{NUMBER})\\)"
     f" {ADVANCES} had surely taken effect{FROM}"
@@ -75,19 +73,22 @@ def claim_faults(history, position, note):
     return None
 
 
-def stop_of(history):
-    """Returns the first event that ends the command, as its position and why it does, or None."""
-    unwatched = "put", "get", "produce", "consume"
-    cells = [call.first for call in history.calls if call.op[0] in unwatched]
-    end = min(cells, default=history.events)
-    faults = []
-    for part in history.parts():
-        if part.kind not in ("cell", "buffer"):
-            faults.append(fault_by_theorem(part.cut(end)))
-    refused = min((it for it in faults if it is not None), default=None)
-    if refused is not None:
-        return refused, "refused"
-    return (end, "cells") if cells else None
+def calls_cells(history):
+    """Returns whether the history calls a cell, a database or a buffer."""
+    return first_of_cells(history) < history.events
+
+
+def first_of_cells(history):
+    """Returns the position of the first call of a cell, a database or a buffer, or that after the last event."""
+    ops = "put", "get", "produce", "consume"
+    return min((call.first for call in history.calls if call.op[0] in ops), default=history.events)
+
+
+def refused_at(history):
+    """Returns the position of the first event that is refused when its line comes, or None."""
+    end = first_of_cells(history)
+    faults = [fault_by_theorem(part.cut(end)) for part in history.parts() if part.kind not in ("cell", "buffer")]
+    return min((it for it in faults if it is not None), default=None)
 
 
 def overlaps(history):
@@ -105,27 +106,33 @@ def overlaps(history):
 
 
 class Watched:
-    """What `watch` has to do with a text."""
+    """What `watch` has to do with a text. `checked` is the result of `check`: a history with calls of cells, databases
+    or buffers has to end both in the same way."""
 
-    def __init__(self, text):
+    def __init__(self, text, checked):
         self.whole, self.fault, number = scan(text)
         histories, begun = list(self.whole), Reader()
         for at, line in enumerate(text.split(b"\n")[: number - 1], start=1):
             begun.take(line, at)
         if begun.place == "events":
             histories.append(begun.history)
-        self.stop = self.history = None
-        for history in histories:
-            self.stop = stop_of(history)
-            if self.stop:
-                self.history = history
-                break
+        self.refused = self.at_the_end = None
+        accepted = checked[1].count(b"evc-order 1\n")
+        for at, history in enumerate(histories):
+            position = refused_at(history)
+            if position is not None:
+                self.refused = history, position
+            elif at == accepted < len(self.whole) and calls_cells(history):
+                self.at_the_end = checked[0], checked[2].decode("latin-1").splitlines(keepends=True)[-1]
+            else:
+                continue
+            break
 
     @property
     def status(self):
-        if self.stop:
-            return {"refused": 1, "cells": 5}[self.stop[1]]
-        return 1 if self.fault else 0
+        if self.at_the_end:
+            return self.at_the_end[0]
+        return 1 if self.refused or self.fault else 0
 
     def output(self):
         if self.status:
@@ -138,16 +145,12 @@ class Watched:
 
     def note_fault(self, notes):
         """Returns what is wrong with the notes, or None."""
-        if not self.stop:
-            right = f"{self.fault}\n" if self.fault else ""
+        if not self.refused:
+            right = self.at_the_end[1] if self.at_the_end else f"{self.fault}\n" if self.fault else ""
             return None if notes == right else f"right is {right!r}"
         if notes.count("\n") != 1 or not notes.endswith("\n"):
             return "it is not one line"
-        position, what = self.stop
-        if what == "cells":
-            right = f"line {self.history.line_of(position)}: {UNWATCHED}\n"
-            return None if notes == right else f"right is {right!r}"
-        return claim_faults(self.history, position, notes[:-1])
+        return claim_faults(*self.refused, notes[:-1])
 
     def faults(self, ran):
         """Returns what is wrong with the result of a command."""
@@ -163,11 +166,9 @@ class Watched:
 
 def agreement_faults(watched, checked):
     """Returns what differs between `watch` and `check` of one text."""
-    if watched[0] == 5:
-        return []
     if watched[0] != checked[0]:
         return [f"watch ends with {watched[0]}, check with {checked[0]}: {checked[2][-200:]}"]
-    if watched[0] == 0:
+    if watched[0] == 0 or watched[2] == checked[2].splitlines(keepends=True)[-1]:
         return []
     lines = [re.match(rb"line (\d+): (\d+ [A-Z])?", notes.splitlines()[-1]) for _, _, notes in (watched, checked)]
     if not all(lines):

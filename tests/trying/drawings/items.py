@@ -103,7 +103,7 @@ def check_named(history, text, svg):
 
 BOUND = re.compile(r"of the first (\d+) items?, (\d+) had not been taken before line (\d+)")
 STEP = re.compile(r"by line (\d+), (?:(?!; by line ).)*?at least (\d+) items? had been (put in|taken)")
-CLOSED = re.compile(r"but no more than (\d+) (?:produce|consume)s? had been called by then(?:, with room for (\d+))?")
+CLOSED = re.compile(r"but no (?:more than (\d+) )?(?:produce|consume)s? had been called by then(?:, with room for (\d+))?")
 FEW = re.compile(r"but of the first (\d+) items?, \d+ (?:was|were) ")
 CROWDED = re.compile(r"by line (\d+), (\d+) items? had been put in that no consume called by then .* with (\d+) of ")
 
@@ -120,7 +120,7 @@ def limits_of(history, note):
     limits += [f"limit: at least {n} {moved} from event {at(line)}" for line, n, moved in steps]
     if steps:
         line, _, moved = steps[-1]
-        most = int(it[1]) + int(it[2] or 0) if (it := CLOSED.search(note)) else int(FEW.search(note)[1]) - 1
+        most = int(it[1] or 0) + int(it[2] or 0) if (it := CLOSED.search(note)) else int(FEW.search(note)[1]) - 1
         limits.append(f"limit: at most {most} {moved} to event {at(line)}")
     if it := CROWDED.search(note):
         limits.append(f"limit: at least {int(it[2]) - int(it[3])} inside at event {at(it[1])}")

@@ -38,7 +38,20 @@ def fault_of_monitor(driver, programs, text):
     # (of a text that ends too early no line is at fault)
     named = line_named(right.notes)
     at_the_end = 0 if named == text.count(b"\n") + 1 else named
-    return None if line in (named, at_the_end) else f"it stopped at line {line}: {right.notes!r}"
+    if line in (named, at_the_end) or is_decided_at(line, named, text):
+        return None
+    return f"it stopped at line {line}: {right.notes!r}"
+
+
+def is_decided_at(line, named, text):
+    """Returns whether this line ends the history with the line that a note names. One that calls cells, databases or
+    buffers is decided there; a note that says why it is not names no line."""
+    lines = text.split(b"\n")[: max(line, 0)]
+    ends = [at for at, it in enumerate(lines, 1) if it == b"end"]
+    cells = (b" calls put ", b" calls get ", b" calls write ", b" calls snapshot ", b" calls produce ", b" calls consume ")
+    begun = ([0] + ends)[-2] if ends else 0
+    calls = any(word in it for it in lines[begun:] for word in cells)
+    return ends[-1:] == [line] and calls and (named == 0 or begun < named)
 
 
 def fault_of_refused_monitor(refuser, path, programs, text):

@@ -1,8 +1,6 @@
 -- An event, judged by the pending calls and the tally of advances, without the events before it.
 use Rattle.std.specs.Prelude.{◌≡◌, ℕ, ◌+◌, ◌<◌, Bool, false, nat_le, List, Option, Some, None, is_some}
 use Rattle.std.specs.Prelude.{Result, Ok, Err, if◌then◌else◌}
-use Rattle.ec_text.specs.Words.{words_of}
-use Rattle.ec_heading.specs.Heading.{is_no_line}
 use Rattle.ec_heading.specs.Lists.{worker_in}
 use Rattle.calls_core.specs.declared.history.Kind as sorts
 use Rattle.calls_core.specs.declared.history.Action.{Action}
@@ -20,13 +18,14 @@ use Rattle.calls_text.specs.declared.running.Running.{Running}
 use Rattle.calls_text.specs.declared.tally.Tally.{Tally}
 use Rattle.calls_text.specs.declared.verb.OpWord.{OpWord}
 use Rattle.calls_text.specs.declared.verb.OpWord.TheVariants as verbs
-use Rattle.calls_text.specs.Forms.{Phrase, Calls, Returns, phrase_in}
+use Rattle.calls_text.specs.Forms.{Phrase, Calls, Returns}
 use Rattle.calls_text.specs.Objects.{object_in}
 use Rattle.calls_text.specs.Recordings.{AreKinds}
 use Rattle.calls_text.specs.Tallies.{tally_at, is_advance_by, IsCountedFurther}
 use Rattle.calls_text.specs.Reading.{call_fault_by, fault_or, index_of, op_of_word, number_in, lists_of}
 use Rattle.calls_text.specs.Reading.{suit_fault, reply_of_word, lists_with, is_bad_reply, other_word}
 use Rattle.calls_text.specs.Reading.{StepFails}
+use Rattle.calls_text.specs.kept.Phrases.{phrase_of}
 
 abbrev pub pending_by : Running → ℕ → Option PendingCall
 pending_by r w = pending_of w r.pending.items
@@ -88,9 +87,8 @@ phrase_result r (Some (Calls w v o ws)) =
 phrase_result r (Some (Returns w a ws)) =
     response_result r (worker_in r.recording.heading.words w) a ws
 
-unfoldable pub event_by : Running → List ℕ → Result NextEvent FaultKind
-event_by r line = if is_no_line line then Err kinds.BadLine
-    else phrase_result r (phrase_in (words_of line))
+abbrev pub event_by : Running → List ℕ → Result NextEvent FaultKind
+event_by r line = phrase_result r (phrase_of line)
 
 -- THE STATE AFTER AN EVENT
 

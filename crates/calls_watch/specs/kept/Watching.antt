@@ -1,11 +1,17 @@
 -- What the state of `watch` represents, after some lines of a text.
 use Rattle.std.specs.Prelude.{◌≡◌, ◌≢◌, ◌<◌, ◌⊎◌, ℕ, ◌+◌, List, [], ◌∷◌, ◌++◌, length, reverse, Option, Some, None}
-use Rattle.std.specs.Prelude.{Result, Ok, Err, true, false, ⊤}
+use Rattle.std.specs.Prelude.{Result, Ok, Err, Bool, false, if◌then◌else◌, ⊤}
+use Rattle.std.specs.Global.{Vec}
 use Rattle.std.specs.List.{All}
 use Rattle.calls_core.specs.declared.history.Kind.{Kind}
+use Rattle.calls_core.specs.declared.history.Action.{Action}
 use Rattle.calls_core.specs.declared.history.Event.{Event}
 use Rattle.calls_core.specs.Histories.{IsHistory, clock, pending_calls}
 use Rattle.calls_core.specs.Completions.{IsLinearizable}
+use Rattle.ec_heading.specs.Spelling.{lines_text}
+use Rattle.calls_verdict.specs.declared.verdict.Refusal.{Refusal}
+use Rattle.calls_verdict.specs.declared.verdict.Undecided.{Undecided}
+use Rattle.calls_verdict.specs.declared.verdict.Verdict.TheVariants as verdicts
 use Rattle.calls_monitor.specs.declared.monitor.Monitor.{Monitor}
 use Rattle.calls_monitor.specs.declared.monitor.Rejection.TheVariants as rejections
 use Rattle.calls_monitor.specs.Monitors.{Judges}
@@ -16,15 +22,21 @@ use Rattle.calls_text.specs.Recordings.{RecordingModel, AreKinds}
 use Rattle.calls_text.specs.Reading.{Stage, Opening, Running, is_ended}
 use Rattle.calls_text.specs.Outcomes.{OneRead, parse_from, lines_of_text, ReturnsFault}
 use Rattle.calls_text.specs.Following.{stage_with_events, HasEvents, IsReached}
+use Rattle.calls_report.specs.declared.checking.TheConstants.{TEXT_MAX}
 use Rattle.calls_report.specs.Checks.{IsNoEnd}
+use Rattle.calls_report.specs.Checks as checks
 use Rattle.calls_watch.specs.declared.feeder.Feeder.{Feeder}
+use Rattle.calls_watch.specs.declared.kept.Kept.{Kept}
+use Rattle.calls_watch.specs.declared.kept.Kept.TheVariants.{Text, Unneeded, TooLong}
 use Rattle.calls_watch.specs.declared.load.Load.{Load}
 use Rattle.calls_watch.specs.declared.stop.Stop.{Stop}
 use Rattle.calls_watch.specs.declared.stop.Stop.TheVariants as stops
 use Rattle.calls_watch.specs.declared.watcher.Watcher.{Watcher}
+use Rattle.calls_watch.specs.declared.whole.DecidedHistory.{DecidedHistory}
 use Rattle.calls_watch.specs.Loads.{IsLoad, invocation_count, others_at}
-use Rattle.calls_watch.specs.Watches.{AreGood, IsStopped, IsUnwatched, AreWatched}
+use Rattle.calls_watch.specs.Watches.{AreGood, IsStopped, HasCells, AreWatched, CallsCells}
 use Rattle.calls_watch.specs.Watches.{invokes_cells}
+use Rattle.calls_watch.specs.kept.Texts.{HoldsText, DecidesText, outcome_of}
 
 -- ONE HISTORY
 
@@ -38,16 +50,25 @@ pub record IsMonitoring (r : RecordingModel) (events : List Event) (m : Monitor)
   pub positions : clock (reverse events) ≡ length events
   pub watches : monitors.Watches kinds (reverse events) m
 
--- while events may come there is a monitor
+-- these events, among them a call of a cell, a database or a buffer, are a history of the objects
+-- that are declared
+pub record IsReading (r : RecordingModel) (events : List Event) : Type 0 where
+  pub kinds : List Kind
+  pub are : AreKinds r.heading r.from kinds
+  pub cells : AreWatched (reverse events) → ⊥
+  pub history : IsHistory kinds (reverse events)
+  pub positions : clock (reverse events) ≡ length events
+
+-- while events may come there is a monitor, or they are only read
 abbrev pub IsMonitored : Stage → List Event → Option Monitor → Type 0
 IsMonitored (Running r) events (Some m) = IsMonitoring r events m
-IsMonitored (Running r) events None = ⊥
+IsMonitored (Running r) events None = IsReading r events
 IsMonitored _ events m = Unit {0}
 
 -- THE TEXT
 
 -- ps are the parts of a text, and qs those that are left. Before them came linearizable histories,
--- and a prefix of one more, which is linearizable
+-- and a prefix of one more, which is linearizable, or calls a cell, a database or a buffer
 pub record IsWatching (ps qs : List (List ℕ)) (w : Watcher) : Type 0 where
   pub reads : List OneRead
   pub start : ℕ
@@ -59,6 +80,17 @@ pub record IsWatching (ps qs : List (List ℕ)) (w : Watcher) : Type 0 where
   pub seen : HasEvents events w.follower
   pub monitored : IsMonitored (stage_with_events events w.follower) events w.monitor
   pub load : IsLoad reads (reverse events) w.load
+  pub first : w.first ≡ start
+  pub kept : HoldsText reached.lines w.kept
+
+-- the history that was decided at its end, from line n on, calls a cell, a database or a buffer
+pub record IsDecided (n : ℕ) (ps : List (List ℕ)) (w : Watcher) : Type 0 where
+  pub decided : DecidedHistory
+  pub is : w.decided ≡ Some decided
+  pub rest : List (List ℕ)
+  pub reads : parse_from n Opening ps
+      ≡ Ok (record { recorded = decided.read.recording; number = decided.read.number; rest = rest })
+  pub cells : CallsCells decided.read.recording
 
 -- why the text is not watched further, from line n on, if the parts are these
 abbrev pub StopsAt : Stop → ℕ → List (List ℕ) → Watcher → Type 0
@@ -66,7 +98,14 @@ StopsAt (stops.Unread fault) n ps w = ReturnsFault (parse_from n Opening ps) fau
 StopsAt (stops.Refused x report) n ps w =
     (r : RecordingModel) × (events : List Event) × (stage_with_events events w.follower ≡ Running r)
     × IsStopped n ps w.number r x report
-StopsAt stops.NotWatched n ps w = IsUnwatched n ps w.number
+StopsAt stops.RefusedAtEnd n ps w =
+    (d : IsDecided n ps w) × (x : Refusal) × (d.decided.verdict ≡ verdicts.Refused x)
+    × checks.IsRefused d.decided.read.recording x
+StopsAt stops.NotDecided n ps w =
+    (d : IsDecided n ps w) × (u : Undecided) × (d.decided.verdict ≡ verdicts.NotDecided u)
+    × checks.IsUndecided d.decided.read.recording u
+StopsAt stops.TooLarge n ps w =
+    (c : HasCells n ps) × (TEXT_MAX < length (lines_text c.reached.lines))
 StopsAt stops.Memory n ps w = Unit {0}
 
 pub record Stops (stop : Stop) (ps : List (List ℕ)) (w : Watcher) : Type 0 where
@@ -115,7 +154,7 @@ pub record IsOpened (r : RecordingModel) (m : Monitor) : Type 0 where
   pub are : AreKinds r.heading r.from kinds
   pub watches : monitors.Watches kinds [] m
 
--- the event was judged
+-- the event was judged by a monitor
 abbrev pub IsJudged : Monitor → Event → Option Monitor → Result (Unit {0}) Stop → Type 0
 IsJudged m x new (Ok u) = (n : Monitor) × (new ≡ Some n) × Judges m n x (Ok u)
 IsJudged m x new (Err (stops.Refused y report)) =
@@ -123,17 +162,34 @@ IsJudged m x new (Err (stops.Refused y report)) =
 IsJudged m x new (Err stops.Memory) = Unit {0}
 IsJudged m x new (Err _) = ⊥
 
+-- without a monitor the text has to be kept
+abbrev pub IsLeft : Kept → Option Monitor → Result (Unit {0}) Stop → Type 0
+IsLeft k new (Ok u) = new ≡ None
+IsLeft k new (Err stops.TooLarge) = k ≡ TooLong
+IsLeft k new (Err stops.Memory) = Unit {0}
+IsLeft k new (Err _) = ⊥
+
+abbrev pub JudgedBy : Option Monitor → Kept → Event → Option Monitor → Result (Unit {0}) Stop
+    → Type 0
+JudgedBy (Some m) k x new result = IsJudged m x new result
+JudgedBy None k x new result = IsLeft k new result
+
+-- the monitor for an event: none from the first call of a cell, a database or a buffer on
+abbrev pub monitor_at : Action → Option Monitor → Option Monitor
+monitor_at a m = if invokes_cells a then None else m
+
 -- a load after an event, after which so many calls are pending
 pub record IsLoadAfter (old : Load) (x : Event) (pending : ℕ) (new : Load) : Type 0 where
   pub histories : new.histories ≡ old.histories
   pub calls : new.calls ≡ old.calls + invocation_count x.action
   pub others : new.others ≡ old.others + others_at x.action pending
 
--- the monitor of a history was opened
+-- the monitor of a history was opened, and its text is kept if it is needed
 abbrev pub Begins : RecordingModel → Watcher → Watcher → Result (Unit {0}) Stop → Type 0
 Begins r old new (Ok u) =
     (m : Monitor) × (new.monitor ≡ Some m) × IsOpened r m × (new.follower ≡ old.follower)
-    × (new.number ≡ old.number) × (new.load ≡ old.load)
+    × (new.number ≡ old.number) × (new.load ≡ old.load) × (new.first ≡ old.first)
+    × ((b : Bool) × (new.kept ≡ (if b then old.kept else Unneeded)))
 Begins r old new (Err stops.Memory) = Unit {0}
 Begins r old new (Err _) = ⊥
 
@@ -144,37 +200,72 @@ LoadGrows old x new =
     → stage_with_events events old.follower ≡ Running r
     → IsLoadAfter old.load x (length (pending_calls (reverse events))) new.load
 
--- an event was judged
-abbrev pub IsEventJudged : Monitor → Event → Watcher → Watcher → Result (Unit {0}) Stop → Type 0
-IsEventJudged m x old new (Ok u) =
-    (n : Monitor) × (new.monitor ≡ Some n) × Judges m n x (Ok u) × LoadGrows old x new
-    × (new.follower ≡ old.follower) × (new.number ≡ old.number) × (invokes_cells x.action ≡ false)
-IsEventJudged m x old new (Err (stops.Refused y report)) =
-    (y ≡ x) × ((n : Monitor) × Judges m n x (Err (rejections.Refused report)))
-    × (new.follower ≡ old.follower) × (new.number ≡ old.number) × (invokes_cells x.action ≡ false)
-IsEventJudged m x old new (Err stops.NotWatched) =
-    (invokes_cells x.action ≡ true) × (new.follower ≡ old.follower) × (new.number ≡ old.number)
-IsEventJudged m x old new (Err stops.Memory) = Unit {0}
-IsEventJudged m x old new (Err _) = ⊥
+-- what an event leaves as it was
+pub record KeepsText (old new : Watcher) : Type 0 where
+  pub follower : new.follower ≡ old.follower
+  pub number : new.number ≡ old.number
+  pub first : new.first ≡ old.first
+  pub kept : new.kept ≡ old.kept
+
+-- an event was judged by this monitor, or only read without one, and counted
+abbrev pub IsTaken : Option Monitor → Event → Watcher → Watcher → Result (Unit {0}) Stop → Type 0
+IsTaken m x old new (Ok u) =
+    JudgedBy m old.kept x new.monitor (Ok u) × LoadGrows old x new × KeepsText old new
+IsTaken m x old new (Err stop) =
+    (JudgedBy m old.kept x new.monitor (Err stop) × KeepsText old new) ⊎ (stop ≡ stops.Memory)
+
+abbrev pub IsEventTaken : Option Monitor → Event → Watcher → Watcher → Result (Unit {0}) Stop
+    → Type 0
+IsEventTaken m x old new result = IsTaken (monitor_at x.action m) x old new result
 
 -- a history has ended, and the next may begin
+pub record IsNext (old new : Watcher) : Type 0 where
+  pub opening : stage_with_events [] new.follower ≡ Opening
+  pub seen : HasEvents [] new.follower
+  pub number : new.number ≡ old.number
+  pub histories : new.load.histories ≡ old.load.histories + 1
+  pub calls : new.load.calls ≡ old.load.calls
+  pub others : new.load.others ≡ old.load.others
+  pub first : new.first ≡ new.number
+  pub kept : HoldsText [] new.kept
+
 abbrev pub IsBegunAgain : Watcher → Watcher → Result (Unit {0}) Stop → Type 0
-IsBegunAgain old new (Ok u) =
-    (stage_with_events [] new.follower ≡ Opening) × HasEvents [] new.follower
-    × (new.number ≡ old.number)
-    × (new.load.histories ≡ old.load.histories + 1) × (new.load.calls ≡ old.load.calls)
-    × (new.load.others ≡ old.load.others)
-IsBegunAgain old new (Err stops.Memory) = Unit {0}
-IsBegunAgain old new (Err _) = ⊥
+IsBegunAgain old new (Ok u) = IsNext old new
+IsBegunAgain old new (Err stop) = stop ≡ stops.Memory
+
+-- a history that was decided at its end has this outcome
+pub record DecidesAs (old new : Watcher) (result : Result (Unit {0}) Stop) : Type 0 where
+  pub decided : DecidedHistory
+  pub is : new.decided ≡ Some decided
+  pub bytes : Vec ℕ
+  pub was : old.kept ≡ Text bytes
+  pub decides : DecidesText old.first bytes.items decided
+  pub outcome : result ≡ outcome_of decided.verdict
+
+-- the history that has ended was decided
+abbrev pub Decides : Watcher → Watcher → Result (Unit {0}) Stop → Type 0
+Decides old new (Err stops.Memory) = Unit {0}
+Decides old new (Err stops.TooLarge) = old.kept ≡ TooLong
+Decides old new result = DecidesAs old new result
+
+-- the history that has ended was decided, unless there is a monitor
+abbrev pub DecidesUnjudged : Option Monitor → Watcher → Watcher → Result (Unit {0}) Stop → Type 0
+DecidesUnjudged (Some m) old new result = result ≡ Ok tt
+DecidesUnjudged None old new result = Decides old new result
+
+-- a history has ended: it was judged event by event, or decided now
+abbrev pub EndsHistory : Option Monitor → Watcher → Watcher → Result (Unit {0}) Stop → Type 0
+EndsHistory (Some m) old new result = IsBegunAgain old new result
+EndsHistory None old new (Ok u) = ((mid : Watcher) × Decides old mid (Ok u)) × IsNext old new
+EndsHistory None old new (Err stop) = Decides old new (Err stop) ⊎ (stop ≡ stops.Memory)
 
 abbrev pub GoesOnBy : HistoryLine → Watcher → Watcher → Result (Unit {0}) Stop → Type 0
 GoesOnBy lines.Heading old new (Ok u) = new ≡ old
 GoesOnBy lines.Heading old new (Err stop) = ⊥
 GoesOnBy lines.Run old new result =
     (r : RecordingModel) → stage_with_events [] old.follower ≡ Running r → Begins r old new result
-GoesOnBy (lines.Event x) old new result =
-    (m : Monitor) → old.monitor ≡ Some m → IsEventJudged m x old new result
-GoesOnBy lines.End old new result = IsBegunAgain old new result
+GoesOnBy (lines.Event x) old new result = IsEventTaken old.monitor x old new result
+GoesOnBy lines.End old new result = EndsHistory old.monitor old new result
 
 -- PIECES
 

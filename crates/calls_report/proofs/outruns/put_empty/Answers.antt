@@ -4,4 +4,4 @@ use Rattle.calls_report.proofs.outruns.put_empty.Goals as goal
 pub returns : goal.returns
 returns g c =
     puts_then _ _ _ _ _
-    (puts_then _ _ _ _ _ c.put.ensures.puts c.put_some.ensures) c.put-2.ensures.puts
+    (puts_then _ _ _ _ _ c.put.ensures.puts c.put_no_more.ensures) c.put-2.ensures.puts

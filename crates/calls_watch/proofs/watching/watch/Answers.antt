@@ -1,7 +1,7 @@
 use Rattle.std.proofs.Common.{Err, refl, subst}
 use Rattle.calls_watch.specs.declared.watching.EarlyEnd.{EarlyEnd}
 use Rattle.calls_watch.specs.kept.Endings.{ReadsAll}
-use Rattle.calls_watch.proofs.EndLemmas.{fed_first, over_known, stop_known}
+use Rattle.calls_watch.proofs.EndLemmas.{fed_first, over_known, stop_known, read_fault}
 use Rattle.calls_watch.proofs.watching.watch.Goals as goal
 
 pub returns-in-Ok-clause-ends : goal.returns-in-Ok-clause-ends
@@ -25,3 +25,10 @@ returns-clause-ends g c =
     (c.in-Err-Stop.ensures (g.R.Read.remaining c.args.reader.now)
     (fed_first (g.R.Read.remaining c.args.reader.now) c.new-feeder.result c.new-feeder.ensures)))
     c.report_stop.ensures.says
+
+pub returns-in-Err-Read-clause-ends : goal.returns-in-Err-Read-clause-ends
+returns-in-Err-Read-clause-ends g c =
+    read_fault (g.R.Read.remaining c.args.reader.now)
+    (record { out = g.W.Write.contents c.args.out.now; notes = c.args.notes.now })
+    (record { out = g.W.Write.contents c.args.out.now; notes = c.say.new.self }) refl
+    c.say.ensures.puts

@@ -13,7 +13,9 @@ returns c = λ ps qs q w.
     let mid : Watcher = record c.args.self.now {
       follower = c.line.new.self;
       number = c.in-Some.next;
+      kept = c.push.new.self;
     } in
     let count : c.in-Some.next ≡ c.args.self.now.number + 1 = search rules in
-    line_goes ps qs q c.args.line.now c.args.self.now mid c.go_on.new.self w count refl refl
+    line_goes ps qs q c.args.line.now c.args.self.now mid c.go_on.new.self w count refl refl refl
+    (c.in-Ok-push.ensures.holds w.reached.lines w.kept)
     c.in-Ok.followed c.go_on.result (c.in-Ok.ensures w.events w.seen) c.go_on.ensures

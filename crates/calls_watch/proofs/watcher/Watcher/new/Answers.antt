@@ -4,5 +4,5 @@ use Rattle.calls_watch.proofs.watcher.Watcher.new.Goals as goal
 
 pub returns : goal.returns
 returns c = λ ps.
-    begins ps _ c.new.ensures.opening c.new.ensures.seen refl refl c.none.ensures.histories
-    c.none.ensures.calls c.none.ensures.others
+    begins ps _ c.new.ensures.opening c.new.ensures.seen refl c.none.ensures.histories
+    c.none.ensures.calls c.none.ensures.others refl c.new-2.ensures
