@@ -81,10 +81,11 @@ All calls must be on eventcounts that are 0 at the beginning, on sequencers and 
 input must be one history. If it is not so, nothing is written, a note says why, and the status is
 2.";
 
-pub(crate) const WATCH_ABOUT: &str = "Judges each event when its line comes, in constant memory";
+pub(crate) const WATCH_ABOUT: &str =
+    "Judges each event when its line comes, or a history with cells at its end";
 
 pub(crate) const WATCH_LONG_ABOUT: &str =
-    "Judges each event when its line comes, in constant memory.
+    "Judges each event when its line comes; a history with cells, databases or buffers at its end.
 
 It reads the output of a program that still runs, for example through a pipe. The first event with
 which a history is not linearizable ends it at once, with a note. At the end it writes one line: how
