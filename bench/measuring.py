@@ -125,7 +125,13 @@ def build_starter(folder):
 # Measuring
 
 
-def measure(words, source=os.devnull, target=os.devnull):
+def check_end(words, status, right):
+    """Fails if a program did not end with the right status."""
+    if os.waitstatus_to_exitcode(status) != right:
+        fail(f"{' '.join(words)} ended with status {os.waitstatus_to_exitcode(status)}")
+
+
+def measure(words, source=os.devnull, target=os.devnull, right=0):
     """Runs a program once. Returns the seconds of CPU time, in user code and in the system, and the peak memory."""
     streams = [
         (os.POSIX_SPAWN_OPEN, 0, source, os.O_RDONLY, 0),
@@ -135,27 +141,25 @@ def measure(words, source=os.devnull, target=os.devnull):
     ]
     child = os.posix_spawnp(words[0], words, os.environ, file_actions=streams)
     _, status, usage = os.wait4(child, 0)
-    if status != 0:
-        fail(f"{' '.join(words)} ended with status {os.waitstatus_to_exitcode(status)}")
+    check_end(words, status, right)
     return usage.ru_utime + usage.ru_stime, usage.ru_maxrss * 1024
 
 
-def figures_of(words, source):
+def figures_of(words, source, right=0):
     """Does the same as `measure`, but a small program starts the one that is measured: a process counts the memory of
     what it was started from, and the bench takes more memory than what it measures."""
     if not starter:
-        return measure(words, source)
+        return measure(words, source, right=right)
     with open(source, "rb") as text:
         ran = subprocess.run([starter, *words], stdin=text, stdout=subprocess.DEVNULL, stderr=subprocess.PIPE)
     status, micros, peak = map(int, ran.stderr.split())
-    if status != 0:
-        fail(f"{' '.join(words)} ended with status {os.waitstatus_to_exitcode(status)}")
+    check_end(words, status, right)
     return micros / 1e6, peak * 1024
 
 
-def best_of(programs, source=os.devnull):
+def best_of(programs, source=os.devnull, right=0):
     """Runs each program on a file, all of them in turn, TIMES times. Returns the least of each measure."""
-    rounds = [[figures_of(words, source) for words in programs] for _ in range(TIMES)]
+    rounds = [[figures_of(words, source, right) for words in programs] for _ in range(TIMES)]
     return [(min(seconds), min(peaks)) for seconds, peaks in (zip(*runs) for runs in zip(*rounds))]
 
 

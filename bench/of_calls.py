@@ -46,6 +46,7 @@ ITEM_COUNTS = (50_000, 500_000)
 BUFFER_SPEED = Target("`evc-calls check` of buffers: MB/s", 50, least=True, digits=0)
 BUFFER_MEMORY = Target("`evc-calls check` of buffers: memory / text", 2, digits=1)
 BUFFER_GROWTH = Target("`evc-calls check` of buffers: time / that of a tenth", 11, digits=1)
+BUFFER_REJECTED = Target("`evc-calls check` of buffers: rejected / accepted", 5, digits=1)
 WATCH_SPEED = Target("`evc-calls watch`: MB/s", 100, least=True, digits=0)
 WATCH_MEMORY = Target("`evc-calls watch`: MiB", 8, digits=1)
 
@@ -138,13 +139,16 @@ def measure_buffers(check, folder):
             say(f"making the history of a buffer '{kind}'")
             queues.write_history(path, kind, items)
             taken += best_of([[check, "check"]], path)
-        (tenth, _), (seconds, peak) = taken
+            if items == ITEM_COUNTS[0]:
+                queues.write_rejected(path, path)
+                taken += best_of([[check, "check"]], path, right=1)
+        (tenth, _), (rejected, _), (seconds, peak) = taken
         text = os.path.getsize(path)
         found = [Figure(BUFFER_SPEED, kind, text / 1e6 / seconds), Figure(BUFFER_MEMORY, kind, peak / text)]
-        found.append(Figure(BUFFER_GROWTH, kind, seconds / tenth))
+        found += [Figure(BUFFER_GROWTH, kind, seconds / tenth), Figure(BUFFER_REJECTED, kind, rejected / tenth)]
         rows.append([kind, f"{text / 1e6:.1f}", *millis(seconds), *(it.text() for it in found)])
         figures += found
-    head = ["history of a buffer", "MB", "ms", "MB/s", "memory by text", "by a tenth"]
+    head = ["history of a buffer", "MB", "ms", "MB/s", "memory by text", "by a tenth", "rejected by accepted"]
     table(f"evc-calls check, {ITEM_COUNTS[-1]} items of a buffer", head, rows)
     return figures
 

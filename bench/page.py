@@ -58,8 +58,12 @@ def summary(text_of):
     yield f"MB/s: {', '.join(f'`{it}` {worst(speeds[it])}' for it in speeds)}."
     growths = {**of_traces.GROWTH, "evc-calls check": of_calls.TEXT_GROWTH}
     yield f"{SIZES[-1]} MiB / {SIZES[0]} MiB: {', '.join(f'`{it}` {worst(growths[it])}' for it in growths)}."
-    speed, memory, growth = map(worst, (of_calls.BUFFER_SPEED, of_calls.BUFFER_MEMORY, of_calls.BUFFER_GROWTH))
-    yield f"A million calls of a buffer: `evc-calls check` {speed} MB/s, memory / text {memory}, / a tenth {growth}."
+    buffers = of_calls.BUFFER_SPEED, of_calls.BUFFER_MEMORY, of_calls.BUFFER_GROWTH, of_calls.BUFFER_REJECTED
+    speed, memory, growth, rejected = map(worst, buffers)
+    yield (
+        f"A million calls of a buffer: `evc-calls check` {speed} MB/s, memory / text {memory}, / a tenth {growth}, "
+        f"rejected / accepted {rejected}."
+    )
     decide, monitor = map(worst, of_calls.JUDGED_GROWTH.values())
     yield f"A million calls / a tenth: `decide` {decide}, `Monitor` {monitor}."
     audit, upgrade = worst(of_traces.MEMORY["audit"], " MiB"), worst(of_traces.UPGRADE_MEMORY)

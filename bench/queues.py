@@ -1,7 +1,7 @@
 """Makes histories of the calls of a buffer (docs/REFERENCE.md, evc-calls 1), for bench/run.
 
 The buffer is right: a call takes effect as it is invoked, or as soon as there is room or an item. The same kind and number
-of items give the same text each time.
+of items give the same text each time. In a rejected one, two of the last consumes have each other's items.
 """
 
 import collections
@@ -91,3 +91,17 @@ def write_history(path, name, items):
         file.write(header(kind))
         file.writelines(events(kind, draw, items))
         file.write("end\n")
+
+
+def write_rejected(path, source):
+    """Writes a history in which a consume near the end returned the item of an earlier one, and that returned its."""
+    with open(source, encoding="ascii") as text:
+        lines = text.read().split("\n")
+    replies = [i for i, line in enumerate(lines) if " returns " in line and line[-1].isdigit()]
+    last, item = replies[-3], lambda i: lines[i].split()[-1]
+    first = next(i for i in reversed(replies[: -ROOM // 2]) if item(i) != item(last))
+    lines[first], lines[last] = (
+        lines[i].replace(f" returns {item(i)}", f" returns {item(j)}") for i, j in ((first, last), (last, first))
+    )
+    with open(path, "w", encoding="ascii", newline="\n") as file:
+        file.write("\n".join(lines))
