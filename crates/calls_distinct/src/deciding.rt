@@ -11,11 +11,12 @@ ghost use Rattle.calls_distinct.specs.kept.Verdicts.{AreGroupedOf, IsVerdict};
 use crate::groups::{group_calls, groups_of};
 use crate::history::calls_in;
 use crate::reading::value;
+use crate::searching::{events_up_to, next_between};
 use crate::testing::first_repeated;
 use crate::verdict::{Verdict, judge};
 use crate::zone::GroupedCall;
 use crate::{Fault, Outcome};
-use calls_core::Part;
+use calls_core::{Call, Op, Part};
 use std::alloc::{AllocError, Global};
 
 /// Judges the first n events.
@@ -35,9 +36,29 @@ fn judge_beginning(alloc: Global, events: &Part<'_, '_>, n: usize) -> Result<Ver
     judge(alloc, &zs, end)
 }
 
-/// Finds, by bisection, the first event with which a prefix shows a fault.
+/// Returns the position at which the value of a call is known: that of the invocation of a put.
+fn known_at(call: &Call) -> usize {
+    match call.op {
+        Op::Put(_) => call.first,
+        _ => call.last,
+    }
+}
+
+/// Returns the last position that a fault names.
+fn latest(fault: &Fault) -> usize {
+    match fault {
+        Fault::Nowhere(call) => call.last,
+        Fault::Stale(first, second) => first.last.max(second.last),
+        Fault::Alternate(a, b, c, d) => {
+            let ended = a.last.max(c.last);
+            ended.max(known_at(b)).max(known_at(d))
+        }
+    }
+}
+
+/// Finds the first event with which a prefix shows a fault.
 ///
-/// The whole history shows `fault`.
+/// The whole history shows `fault`. What a fault names and bisection take turns.
 fn first_fault(
     alloc: Global,
     events: &Part<'_, '_>,
@@ -53,12 +74,18 @@ fn first_fault(
     let mut fault = fault;
     let mut low: usize = 0;
     let mut high = events.len();
+    let mut halves = false;
     while 1 < high - low {
-        let middle = low + (high - low) / 2;
-        match judge_beginning(alloc, events, middle)? {
-            Verdict::Ordered(_) => low = middle,
+        let named = events_up_to(events, latest(&fault));
+        let n = next_between(low, high, named, halves);
+        match judge_beginning(alloc, events, n)? {
+            Verdict::Ordered(_) => {
+                low = n;
+                halves = false;
+            }
             Verdict::Faulty(earlier) => {
-                high = middle;
+                high = n;
+                halves = !halves;
                 fault = earlier;
             }
         }

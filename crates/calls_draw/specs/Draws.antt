@@ -26,12 +26,22 @@ abbrev pub SaysAsCheck : List ℕ → Status → OutputModel → OutputModel →
 SaysAsCheck text status old new =
     (note : List ℕ) × IsNoteOn text status note × Puts old new note
 
+-- the note that only the last events are drawn
+abbrev pub cut_note : List ℕ
+cut_note = codes "more than 400 events: only the last 400 are drawn\n"
+
+-- what `check` says was reported, and maybe that only the last events are drawn
+abbrev pub SaysOfPicture : List ℕ → Status → OutputModel → OutputModel → Type 0
+SaysOfPicture text status old new =
+    (said : OutputModel) × SaysAsCheck text status old said
+    × ((new ≡ said) ⊎ Puts said new cut_note)
+
 -- a picture was written, and what `check` says was reported; or a write failed, and only a proper
 -- prefix of the picture was written
 abbrev pub WritesOne : List ℕ → Status → Outputs → Outputs → Type 0
 WritesOne text status old new =
     (picture : List ℕ)
-    × ((Appends old.out new.out picture × SaysAsCheck text status old.notes new.notes)
+    × ((Appends old.out new.out picture × SaysOfPicture text status old.notes new.notes)
     ⊎ ((status ≡ statuses.InputOutput) × AppendsPrefix old.out new.out picture
     × Puts old.notes new.notes (codes "write fault\n")))
 

@@ -5,6 +5,7 @@ ghost use Rattle.std.specs.List.{starts_with};
 ghost use Rattle.ec_text.specs.Puts.{IsWrittenOut, Puts};
 ghost use Rattle.calls_report.specs.declared.status.Status.TheVariants.{Done, Memory};
 ghost use Rattle.calls_draw.specs.Draws.{Draws, Chooses, IsNoteOn, SaysAsCheck, WritesOne};
+ghost use Rattle.calls_draw.specs.Draws.{SaysOfPicture, cut_note};
 
 use crate::choice::{unknown_object, unknown_worker};
 use crate::history::FoundHistory;
@@ -171,14 +172,32 @@ fn put_picture(
     Ok(())
 }
 
-/// Returns the bytes of the picture of a history, with this note on its text.
+/// A picture, as it is written.
+#[derive(Drop)]
+struct Drawing {
+    bytes: Vec<u8>,
+    /// Whether only the last of the events are drawn that are asked for.
+    is_cut: bool,
+}
+
+/// Returns whether a picture begins after the first event that a view asks for.
+fn is_cut(view: &CallsView<'_>, picture: &Picture<'_>) -> bool {
+    let from = picture.window().from;
+    match view.from {
+        Some(asked) => asked < from,
+        None => picture.evidence.is_none() && 0 < from,
+    }
+}
+
+/// Returns the picture of a history, with this note on its text.
 fn draw_picture(
     alloc: Global,
     view: &CallsView<'_>,
     note: &[u8],
     found: &FoundHistory<'_>,
-) -> Result<Vec<u8>, AllocError> {
+) -> Result<Drawing, AllocError> {
     let picture = Picture::of(alloc, view, found, note)?;
+    let is_cut = is_cut(view, &picture);
     let mut bytes = Vec::new(alloc);
     let mut out = Output::new(&mut bytes);
     let put = put_picture(alloc, view, &mut out, &picture);
@@ -186,15 +205,40 @@ fn draw_picture(
     out.into_writer();
     put?;
     match done {
-        Ok(()) => Ok(bytes),
+        Ok(()) => Ok(Drawing { bytes, is_cut }),
         Err(_) => Err(AllocError),
     }
+}
+
+/// Reports that only the last events are drawn, if it is so.
+fn report_cut<N: Write>(drawing: &Drawing, notes: &mut Output<'_, N>)
+    ensures says { (notes.new ≡ notes.old) ⊎ Puts notes.old notes.new cut_note }
+    ensures written { IsWrittenOut notes.old → IsWrittenOut notes.new }
+{
+    if drawing.is_cut {
+        notes.say(b"more than 400 events: only the last 400 are drawn\n");
+    }
+}
+
+/// Reports what `check` says of the text of a picture, and what is not drawn.
+fn report_drawn<N: Write>(
+    noted: &CheckReport,
+    drawing: &Drawing,
+    notes: &mut Output<'_, N>,
+) -> Status
+    ensures says { (text : List ℕ) → IsNoteOn text noted.now.status noted.now.note.items
+        → SaysOfPicture text result notes.old notes.new }
+    ensures written { IsWrittenOut notes.new }
+{
+    let status = report_as_check(noted, notes);
+    report_cut(drawing, notes);
+    status
 }
 
 /// Writes a picture, and reports what `check` says of its text.
 fn write_picture<W: Write, N: Write>(
     noted: &CheckReport,
-    picture: &[u8],
+    drawing: &Drawing,
     out: &mut W,
     notes: &mut Output<'_, N>,
 ) -> Status
@@ -204,8 +248,8 @@ fn write_picture<W: Write, N: Write>(
         (record { out = W.contents out.new; notes = notes.new }) }
     ensures written { IsWrittenOut notes.new }
 {
-    match write_out(out, picture) {
-        Ok(()) => report_as_check(noted, notes),
+    match write_out(out, &drawing.bytes) {
+        Ok(()) => report_drawn(noted, drawing, notes),
         Err(_) => {
             notes.say(b"write fault\n");
             Status::InputOutput
@@ -232,7 +276,7 @@ fn draw_found<W: Write, N: Write>(
         return Status::Usage;
     }
     match draw_picture(alloc, view, &noted.note, found) {
-        Ok(picture) => write_picture(noted, &picture, out, notes),
+        Ok(drawing) => write_picture(noted, &drawing, out, notes),
         Err(_) => report_no_memory(notes),
     }
 }

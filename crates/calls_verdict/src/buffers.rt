@@ -8,19 +8,29 @@ ghost use Rattle.calls_verdict.specs.Verdicts.{IsHard, IsDecision};
 
 use crate::verdict::{Cause, Decision, Fault};
 use calls_core::{Part, PlacedCalls};
+use calls_distinct::{events_up_to, next_between};
 use std::alloc::{AllocError, Global};
 
-/// Returns an index between two others, halfway.
-fn middle(low: usize, high: usize) -> usize
-    requires apart { low + 1 < high }
-    ensures above { low < result }
-    ensures below { result < high }
-{
-    low + (high - low) / 2
+/// Returns the last position that a fault names.
+fn latest(fault: &calls_buffers::Fault) -> usize {
+    match fault {
+        calls_buffers::Fault::Unproduced { consume, .. } => consume.last,
+        calls_buffers::Fault::Overfull { call, .. } | calls_buffers::Fault::Crowded { call, .. } =>
+            { call.last }
+        calls_buffers::Fault::Overtaken { put, consume, .. }
+        | calls_buffers::Fault::Passed { put, consume, .. } => put.last.max(consume.last),
+        calls_buffers::Fault::Squeezed { full, put, .. } => full.last.max(put.last),
+        calls_buffers::Fault::Overdue { bounds } => {
+            bounds.iter().map(|bound| bound.at).max().unwrap_or(0)
+        }
+        calls_buffers::Fault::Outrun { steps, .. } => {
+            steps.iter().map(|step| step.at).max().unwrap_or(0)
+        }
+    }
 }
 
-/// Finds by halving an event with which a fault is found, and is not found without it. The first
-/// `upto` events show a fault.
+/// Finds an event with which a fault is found, and is not found without it. The first `upto` events
+/// show a fault. What a fault names and bisection take turns.
 fn refuse(
     alloc: Global,
     room: usize,
@@ -39,22 +49,31 @@ fn refuse(
     let mut fault = fault;
     let mut low = 0;
     let mut high = upto;
+    let mut halves = false;
     while high - low > 1 {
-        let mid = middle(low, high);
+        let named = events_up_to(events, latest(&fault));
+        let mid = next_between(low, high, named, halves);
         let beginning = events.first(mid);
         match calls_buffers::decide(alloc, room, &beginning, end)? {
             calls_buffers::Outcome::Refused(found) => {
                 fault = found;
                 high = mid;
+                halves = !halves;
             }
-            calls_buffers::Outcome::Ordered(_) => low = mid,
-            calls_buffers::Outcome::NotDecided => low = mid,
+            calls_buffers::Outcome::Ordered(_) => {
+                low = mid;
+                halves = false;
+            }
+            calls_buffers::Outcome::NotDecided => {
+                low = mid;
+                halves = false;
+            }
         }
     }
     Ok(Decision::Refused(low, Fault::Items(fault)))
 }
 
-/// Finds by halving the first event with which no linearization is found, or a fault.
+/// Finds by bisection the first event with which no linearization is found, or a fault.
 fn leave_open(
     alloc: Global,
     room: usize,
@@ -70,7 +89,7 @@ fn leave_open(
     let mut low = 0;
     let mut high = events.len();
     while high - low > 1 {
-        let mid = middle(low, high);
+        let mid = next_between(low, high, 0, true);
         let beginning = events.first(mid);
         match calls_buffers::decide(alloc, room, &beginning, end)? {
             calls_buffers::Outcome::Ordered(_) => low = mid,

@@ -13,10 +13,11 @@ pub(crate) fn world_at(run: &Run, moment: usize) -> World
     let mut world = World::open(run.setup().copy());
     let mut place = 0;
     for entry in run.entries() {
-        if place < moment {
-            let _reply = world.step(entry.worker, entry.act);
-            place += 1;
+        if place >= moment {
+            return world;
         }
+        let _reply = world.step(entry.worker, entry.act);
+        place += 1;
     }
     world
 }

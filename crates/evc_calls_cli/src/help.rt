@@ -6,10 +6,10 @@ pub(crate) const VERSION: &str = "0.2
 proved and built with rattle-kit-13";
 
 pub(crate) const ABOUT: &str =
-    "Judges recorded calls of eventcounts, sequencers, semaphores and cells";
+    "Judges recorded calls of eventcounts, sequencers, semaphores, cells and buffers";
 
 pub(crate) const LONG_ABOUT: &str =
-    "Judges recorded calls of eventcounts, sequencers, semaphores and cells.
+    "Judges recorded calls of eventcounts, sequencers, semaphores, cells, databases and buffers.
 
 A history says who called what, and what was returned, in the order in which that happened:
 
@@ -38,7 +38,7 @@ pub(crate) const AFTER_HELP: &str = "Exit status:
      says why
   3  a read or a write failed
   4  out of memory
-  5  a history is not decided: a note says which cell or buffer, and why";
+  5  a history is not decided: a note names the cell, the database or the buffer";
 
 pub(crate) const CHECK_ABOUT: &str =
     "Writes a linearization of each history, or a note that says why there is none";
@@ -82,7 +82,7 @@ input must be one history. If it is not so, nothing is written, a note says why,
 2.";
 
 pub(crate) const WATCH_ABOUT: &str =
-    "Judges each event when its line comes, or a history with cells at its end";
+    "Judges each event when its line comes, or some histories at their end";
 
 pub(crate) const WATCH_LONG_ABOUT: &str =
     "Judges each event when its line comes; a history with cells, databases or buffers at its end.

@@ -5,11 +5,11 @@
 pub(crate) const VERSION: &str = "0.2
 proved and built with rattle-kit-13";
 
-pub(crate) const ABOUT: &str = "Draws a run of eventcounts and sequencers";
+pub(crate) const ABOUT: &str = "Draws a trace, or a history of calls";
 
 pub(crate) const LONG_ABOUT: &str =
-    "Draws a run of eventcounts and sequencers, recorded as a trace or as a history of calls, as a
-picture (SVG), a page or a text.
+    "Draws a run of eventcounts, sequencers, cells and groups, recorded as a trace or as a history of
+calls, as a picture (SVG), a page or a text.
 
     evc-draw my.trace > picture.svg
     evc-draw --html my.trace > picture.html
@@ -30,9 +30,9 @@ around a curve has the counts that some order of the calls gives at that moment.
 is drawn up to its rejection, with the calls that show it outlined.";
 
 pub(crate) const AFTER_HELP: &str =
-    "At most 400 entries are drawn: of more the last 400, and a note says so; --from and --to choose
-others (of a history they count events). If they leave none, or a name stands for nothing in the
-text, the status is 2. Otherwise notes and exit status are those of `evc check`, or of
+    "At most 400 entries or events are drawn: of more the last 400, and a note says so; --from
+and --to choose others. If they leave none, or a name stands for nothing in the text, the status is
+2. Otherwise notes and exit status are those of `evc check`, or of
 `evc-calls check`.
 
 A text without its line `end` is not drawn, nor a trace with something after it. One that has no

@@ -1,6 +1,6 @@
-use Rattle.std.proofs.Common.{◌+◌, ◌-◌, ◌/◌, arith}
+use Rattle.std.proofs.Common.{arith}
 use Rattle.calls_distinct.proofs.Earlier.{search_start, search_up, search_down}
-use Rattle.calls_distinct.proofs.Earlier.{middle_between, first_fault_is}
+use Rattle.calls_distinct.proofs.Earlier.{first_fault_is}
 use Rattle.calls_distinct.proofs.deciding.first_fault.Goals as goal
 use Rattle.calls_distinct.proofs.deciding.first_fault.Goals.{in-Ordered, in-Faulty}
 
@@ -13,14 +13,14 @@ loop-high-preserved-after-branch-2 c =
     let low = c.loop-high.low in
     let high = c.loop-high.high in
     let s = c.loop-high.invariant in
-    let between = middle_between low high s.apart c.loop-high-test.true in
+    let n = c.next_between-n.result in
+    let above = c.next_between-n.ensures.above in
+    let below = c.next_between-n.ensures.below in
     elim c.match-branch-2.branch [
-      | in-Ordered w ↦ search_up c.args.events.now low (low + (high - low) / 2) high _ _
-          c.loop-high.fault _ _ _ s c.in_ok-earlier.ensures w.in-Ordered.is between.1 w.low-is
-          w.high-is w.fault-is
-      | in-Faulty w ↦ search_down c.args.events.now low (low + (high - low) / 2) high _ _
-          c.loop-high.fault _ _ _ s c.in_ok-earlier.ensures w.in-Faulty.is between.0 between.1
-          w.low-is w.high-is w.fault-is
+      | in-Ordered w ↦ search_up c.args.events.now low n high _ _ c.loop-high.fault _ _ _ s
+          c.in_ok-earlier.ensures w.in-Ordered.is below w.low-is w.high-is w.fault-is
+      | in-Faulty w ↦ search_down c.args.events.now low n high _ _ c.loop-high.fault _ _ _ s
+          c.in_ok-earlier.ensures w.in-Faulty.is above below w.low-is w.high-is w.fault-is
     ]
 
 pub returns : goal.returns

@@ -26,17 +26,17 @@ loop-high-init c = record {
 pub decide-requires-clause-history : goal.decide-requires-clause-history
 decide-requires-clause-history c =
     subst (λ zs. IsHistoryOf (Buffer c.args.room) (reverse zs)) (sym c.first-beginning.ensures)
-    (history_at (Buffer c.args.room) c.middle-mid.result c.args.events.now c.requires.history)
+    (history_at (Buffer c.args.room) c.next_between-mid.result c.args.events.now c.requires.history)
 
 pub decide-requires-clause-end : goal.decide-requires-clause-end
 decide-requires-clause-end c =
     subst (λ zs. clock (reverse zs) ≤ c.args.end) (sym c.first-beginning.ensures)
-    (before_end (Buffer c.args.room) c.middle-mid.result c.args.end c.args.events.now
+    (before_end (Buffer c.args.room) c.next_between-mid.result c.args.end c.args.events.now
     c.requires.history c.requires.late)
 
 pub refuse-requires-clause-shown : goal.refuse-requires-clause-shown
 refuse-requires-clause-shown c =
-    subst (IsOutcome c.args.room (take c.middle-mid.result c.args.events.now) c.args.end)
+    subst (IsOutcome c.args.room (take c.next_between-mid.result c.args.events.now) c.args.end)
     c.in-Refused.is
     (subst (λ zs. IsOutcome c.args.room zs c.args.end c.in_ok-fault.field-0)
     c.first-beginning.ensures c.in_ok-fault.ensures)
@@ -44,9 +44,9 @@ refuse-requires-clause-shown c =
 pub loop-high-preserved-after-branch-2 : goal.loop-high-preserved-after-branch-2
 loop-high-preserved-after-branch-2 c =
     let events = c.args.events.now in
-    let mid = c.middle-mid.result in
-    let above = c.middle-mid.ensures.above in
-    let below = c.middle-mid.ensures.below in
+    let mid = c.next_between-mid.result in
+    let above = c.next_between-mid.ensures.above in
+    let below = c.next_between-mid.ensures.below in
     let inside = c.loop-high.invariant.within in
     elim c.match-branch-2.branch [
       | in-Ordered w ↦
