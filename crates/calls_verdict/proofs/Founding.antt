@@ -29,15 +29,15 @@ use Rattle.calls_verdict.specs.declared.verdict.Verdict.TheVariants.{Linearizabl
 use Rattle.calls_verdict.specs.declared.verdict.Verdict.TheVariants.{NotDecided}
 use Rattle.calls_verdict.specs.declared.verdict.Decision.TheVariants as decision
 use Rattle.calls_verdict.specs.declared.findings.Findings.{Findings}
-use Rattle.calls_verdict.specs.Faults.{Shows, ShowsUndecided, IsDecided}
+use Rattle.calls_verdict.specs.Faults.{Shows, ShowsUndecided}
 use Rattle.calls_verdict.specs.Verdicts.{IsHard, IsDecision, IsCleanBefore, IsOrderedBefore, IsVerdict}
 use Rattle.calls_verdict.specs.Verdicts.{IsOrdered, IsClear, AreClear}
 use Rattle.calls_verdict.specs.kept.Findings.{limit, IsRefused, IsOpen, ArePlaced}
 use Rattle.calls_verdict.specs.kept.Findings.{AreFound, IsEarlier}
-use Rattle.calls_verdict.proofs.Untils.{part_until}
-use Rattle.calls_verdict.proofs.OfKinds.{decided_order}
+use Rattle.calls_verdict.proofs.Untils.{part_until, until_all}
 use Rattle.calls_verdict.proofs.Clearing.{clear_up_to, until_event, event_early, whole_shows}
-use Rattle.calls_verdict.proofs.Clearing.{IsRefusal, refusal_of, ordered_clear, ordered_up_to}
+use Rattle.calls_verdict.proofs.Clearing.{IsRefusal, refusal_of, ordered_up_to, order_clear}
+use Rattle.calls_verdict.proofs.Clearing.{ordered_clear, open_clear, settled_order}
 use Rattle.calls_verdict.proofs.Gathering.{placed_more, placed_whole, none_placed, whole_from_parts}
 
 pub none_here : {X : Type 0} (o : Option X) → ((x : X) → o ≡ Some x → ⊥) → o ≡ None
@@ -60,11 +60,11 @@ history_before kinds n past h =
 module _ (kinds : List Kind) (past : List Event) (h : IsHistory kinds past) where
   abbrev Clear : ℕ → ℕ → Type 0
   Clear n top = (k : ℕ) (kind : Kind) → k < n → slice_get kinds k ≡ Some kind → (m : ℕ) → m ≤ top
-      → IsClear kind (until m (part k past))
+      → IsClear kind past k m
 
   clear_more : (n : ℕ) (kind : Kind) (top later : ℕ) → slice_get kinds n ≡ Some kind → later ≤ top
       → Clear n top
-      → ((m : ℕ) → m ≤ later → IsClear kind (until m (part n past))) → Clear (n + 1) later
+      → ((m : ℕ) → m ≤ later → IsClear kind past n m) → Clear (n + 1) later
   clear_more n kind top later is le old new k other lt e m low =
       elim (cases_lt k n) [
         | inl less ↦ old k other less e m (omega arith)
@@ -72,9 +72,14 @@ module _ (kinds : List Kind) (past : List Event) (h : IsHistory kinds past) wher
             (let same : n ≡ k = omega arith in
             let one : kind ≡ other = same_Some kind other (sym is ∙ ap (slice_get kinds) same ∙ e)
             in
-            subst (λ j. IsClear other (until m (part j past))) same
-            (subst (λ z. IsClear z (until m (part n past))) one (new m low)))
+            subst (λ j. IsClear other past j m) same
+            (subst (λ z. IsClear z past n m) one (new m low)))
       ]
+
+  -- the events of object n before a position, if these are its events
+  own_until : (n m : ℕ) (own : List Event) → own ≡ part n past
+      → until m own ≡ part n (until m past)
+  own_until n m own mine = ap (until m) mine ∙ sym (part_until kinds n m past h)
 
   -- an object that is ordered
   pub found_ordered : (n : ℕ) (kind : Kind) (own : List Event) (cs : List Call) (old new : Findings)
@@ -94,7 +99,9 @@ module _ (kinds : List Kind) (past : List Event) (h : IsHistory kinds past) wher
             is
             (let same : limit (clock past) new.refusal ≡ limit (clock past) old.refusal =
             ap (limit (clock past)) refused in omega arith)
-            f.clear (λ m le. inl (order_until kind m (part n past) of_kind has));
+            f.clear (λ m le. order_clear kind past n m
+            (subst (HasOrderOf kind) (own_until n m (part n past) refl)
+            (order_until kind m (part n past) of_kind has)));
         refused = subst (IsRefused kinds past) (sym refused) f.refused;
         undecided = subst (IsOpen kinds past) (sym undecided) f.undecided;
         placed = λ a b. subst (ArePlaced kinds past (n + 1)) (sym items)
@@ -124,28 +131,32 @@ module _ (kinds : List Kind) (past : List Event) (h : IsHistory kinds past) wher
             (let same : limit (clock past) new.refusal ≡ kept.at =
             ap (limit (clock past)) refused in
             omega (arith, lower old.refusal least of_kind)) f.clear
-            (λ m le. subst (λ q. IsClear kind (until m q)) mine
-            (ordered_clear kind (until m (reverse own))
-            (ordered_up_to kind own i d of_kind r.within m
-            (let same : limit (clock past) new.refusal ≡ kept.at =
+            (λ m le. (let same : limit (clock past) new.refusal ≡ kept.at =
             ap (limit (clock past)) refused in
-            omega (arith, no_later old.refusal least)) r.ordered)));
+            let early : m ≤ (get_or own i d).at =
+            omega (arith, no_later old.refusal least) in
+            ordered_clear kind past n m (get_or own i d).at early
+            (own_ordered of_kind kind m is early)));
         refused = subst (IsRefused kinds past) (sym refused)
             (shown old.refusal least f.refused of_kind);
         undecided = subst (IsOpen kinds past) (sym undecided) f.undecided;
         placed = λ a b. absurd (none-some kept (sym a ∙ refused));
       })
     where
-      r : IsRefusal kind own i fault
-      r = refusal_of kind own i fault l
+      r : IsRefusal kind own (clock past) i fault
+      r = refusal_of kind own (clock past) i fault l
 
       own_ordered : IsHistoryOf kind (reverse own)
           → IsOrderedBefore kinds past n (get_or own i d).at
       own_ordered of_kind other m e le =
           (let one : kind ≡ other = same_Some kind other (sym is ∙ e) in
-          subst (λ z. IsOrdered z (part n (until m past))) one
-          (subst (IsOrdered kind) (ap (until m) mine ∙ sym (part_until kinds n m past h))
-          (ordered_up_to kind own i d of_kind r.within m le r.ordered)))
+          let at = (get_or own i d).at in
+          subst (λ z. IsOrdered z (clock past) (part n (until m past)) (part n (until at past))) one
+          (subst (IsOrdered kind (clock past) (part n (until m past)))
+          (own_until n at (reverse own) mine)
+          (subst (λ q. IsOrdered kind (clock past) q (until at (reverse own)))
+          (own_until n m (reverse own) mine)
+          (ordered_up_to kind own i d of_kind r.within (clock past) m le r.ordered))))
 
       next_shows : IsHistoryOf kind (reverse own) → IsRefused kinds past
           (Some (refusal_at n (get_or own i d) fault))
@@ -207,9 +218,13 @@ module _ (kinds : List Kind) (past : List Event) (h : IsHistory kinds past) wher
             is
             (let same : limit (clock past) new.refusal ≡ limit (clock past) old.refusal =
             ap (limit (clock past)) refused in omega arith)
-            f.clear (λ m le. subst (λ q. IsClear kind (until m q)) mine
+            f.clear (λ m le. open_clear kind past n m
+            (subst (λ q. HasOrderOf kind q ⊎ ((v : Cause) × ShowsUndecided kind q v))
+            (own_until n m (reverse own) mine)
             (clear_up_to kind own i d of_kind l.0.within u m (subst (λ q. ShowsUndecided kind q u)
-            (past_next own i d l.0.within) l.0.shows) (l.0.before i (omega arith))));
+            (past_next own i d l.0.within) l.0.shows) (l.0.before i (omega arith))))
+            (subst (IsHard kind (clock past)) (mine
+            ∙ ap (part n) (sym (until_all (m + clock past) past (omega arith)))) l.1));
         refused = subst (IsRefused kinds past) (sym refused) f.refused;
         undecided = subst (IsOpen kinds past) (sym undecided) (elim first [
           | inl e ↦ subst (IsOpen kinds past) e f.undecided
@@ -241,18 +256,11 @@ module _ (kinds : List Kind) (past : List Event) (h : IsHistory kinds past) wher
   clean top c m le = (
     clear,
     λ d. whole_from_parts kinds (until m past) (history_before kinds m past h)
-        (λ k kind e. ordered kind (part k (until m past)) (d k kind e) (clear k kind e)),
+        (λ k kind e. settled_order kind past k m (d k kind e) (clear k kind e)),
   )
     where
-      clear : AreClear kinds (until m past)
-      clear k kind e =
-          subst (IsClear kind) (sym (part_until kinds k m past h))
-          (c k kind (slice_get_within kinds k kind e) e m le)
-
-      ordered : (kind : Kind) (own : List Event) → IsDecided kind own → IsClear kind own
-          → HasOrderOf kind own
-      ordered kind own d (inl l) = l
-      ordered kind own d (inr w) = decided_order kind own w.0 d w.1
+      clear : AreClear kinds past m
+      clear k kind e = c k kind (slice_get_within kinds k kind e) e m le
 
   pub verdict_refused : (found : Findings) (r : Refusal) → found.refusal ≡ Some r
       → AreFound kinds past (length kinds) found

@@ -92,7 +92,7 @@ until_none [] = refl
 until_none (x ∷ past) = until_out 0 x past (omega arith) ∙ until_none past
 
 -- nothing is decided of a buffer from its first event on
-pub nothing_decided : (n : ℕ) (past : List Event)
+nothing_decided : (n : ℕ) (past : List Event)
     → HasOrderOf (Buffer n) past ⊎ ((u : Cause) × ShowsUndecided (Buffer n) past u)
 nothing_decided n [] = inl (nothing_ordered (Buffer n))
 nothing_decided n (x ∷ past) = inr (

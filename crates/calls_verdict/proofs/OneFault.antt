@@ -4,15 +4,17 @@ use Rattle.std.proofs.Common.{ap, sym, ◌∙◌, arith, subst}
 use Rattle.std.proofs.lemmas.Bool.{cases_lt, le-ltb}
 use Rattle.calls_core.specs.declared.history.Kind.{Kind}
 use Rattle.calls_core.specs.declared.history.Event.{Event}
-use Rattle.calls_core.specs.Histories.{clock, IsHistory}
+use Rattle.calls_core.specs.Histories.{clock, part, IsHistory}
 use Rattle.calls_core.specs.Beginnings.{until}
 use Rattle.calls_core.specs.Completions.{IsLinearizable}
 use Rattle.calls_core.proofs.Beginnings.{history_earlier}
 use Rattle.calls_local.proofs.Responding.{answers_become_responses}
-use Rattle.calls_verdict.specs.Verdicts.{AreDecided}
+use Rattle.calls_verdict.specs.Faults.{IsDecided}
+use Rattle.calls_verdict.specs.Verdicts.{AreDecided, AreSettled}
 use Rattle.calls_verdict.specs.Laws.{TheFirstFaultIsOne}
 use Rattle.calls_verdict.proofs.Alternatives.{a_refusal_is_final}
 use Rattle.calls_verdict.proofs.Untils.{until_all}
+use Rattle.calls_verdict.proofs.Clearing.{decided_settled}
 
 -- a history ends no earlier than a beginning of it, and what follows is no earlier than its end
 pub ends_later : (kinds : List Kind) (late past : List Event) → IsHistory kinds (late ++ past)
@@ -47,6 +49,15 @@ before_x kinds (y ∷ late) past x h =
     (le-ltb y.at x.at (omega arith))
     ∙ before_x kinds late past x h.2)
 
+-- what is decided up to x is settled there
+pub decided_are_settled : (kinds : List Kind) (late past : List Event) (x : Event)
+    → IsHistory kinds (late ++ x ∷ past) → AreDecided kinds (x ∷ past)
+    → AreSettled kinds (late ++ x ∷ past) (x.at + 1)
+decided_are_settled kinds late past x h d = λ k kind is.
+    decided_settled kind (late ++ x ∷ past) k (x.at + 1)
+    (subst (λ (es : List Event). IsDecided kind (part k es))
+    (sym (until_past kinds late (x ∷ past) h)) (d k kind is))
+
 pub the_first_fault_is_one : TheFirstFaultIsOne
 the_first_fault_is_one = λ kinds late past x at k f h d good bad r.
     (let whole = late ++ x ∷ past in
@@ -54,8 +65,7 @@ the_first_fault_is_one = λ kinds late past x at k f h d good bad r.
     let before : until x.at whole ≡ past = before_x kinds late past x h in
     elim (cases_lt x.at at) [
       | inl early ↦ absurd (bad
-          (let clean = (r.before (x.at + 1) (omega arith)).1
-          (subst (AreDecided kinds) (sym up_to) d) in
+          (let clean = (r.before (x.at + 1) (omega arith)).1 d in
           let longer = subst (IsHistory kinds) (sym up_to) (history_earlier kinds late (x ∷ past) h)
           in
           let answered = answers_become_responses kinds (until (x.at + 1) whole) clean.0 longer

@@ -20,23 +20,30 @@ use Rattle.calls_verdict.specs.declared.verdict.Decision.{Decision}
 use Rattle.calls_verdict.specs.declared.verdict.Decision.TheVariants as decision
 use Rattle.calls_verdict.specs.Faults.{Shows, ShowsUndecided, IsDecided, IsFaulty}
 
--- the events up to that at index i show the fault. It is the first faulty one; but of a buffer an
--- earlier one may be faulty
-abbrev pub IsRefusedAt : Kind → List Event → ℕ → Fault → Type 0
-IsRefusedAt (Buffer n) events i f =
-    (i < length events) × Shows (Buffer n) (past_at (i + 1) events) f
-IsRefusedAt kind events i f = IsFirstFault (λ past. Shows kind past f) kind events i
-
 -- if the object is a buffer, its calls are not of the class that is always decided, unless t is the
 -- last position of all
 abbrev pub IsHard : Kind → ℕ → List Event → Type 0
 IsHard (Buffer n) t past = t + 1 < 2 ^ 64 → IsSimple n past → ⊥
 IsHard kind t past = Unit {0}
 
+-- the calls have a linearization; or the object is a buffer, and its calls up to the end of `more`,
+-- which begins with these events, are not of the class that is always decided
+abbrev pub IsOrdered : Kind → ℕ → List Event → List Event → Type 0
+IsOrdered (Buffer n) t past more = HasOrderOf (Buffer n) past ⊎ IsHard (Buffer n) t more
+IsOrdered kind t past more = HasOrderOf kind past
+
+-- the events up to that at index i show the fault. It is the first faulty one; but of a buffer an
+-- earlier one may be faulty, if the calls before it are not of the class that is always decided
+abbrev pub IsRefusedAt : Kind → List Event → ℕ → ℕ → Fault → Type 0
+IsRefusedAt (Buffer n) events t i f =
+    (i < length events) × Shows (Buffer n) (past_at (i + 1) events) f
+    × IsOrdered (Buffer n) t (past_at i events) (past_at i events)
+IsRefusedAt kind events t i f = IsFirstFault (λ past. Shows kind past f) kind events i
+
 -- what a decision on the calls of one object says
 abbrev pub IsDecision : Kind → List Event → ℕ → Decision → Type 0
 IsDecision kind events t (decision.Ordered cs) = IsOrderOf kind (reverse events) t cs
-IsDecision kind events t (decision.Refused i f) = IsRefusedAt kind events i f
+IsDecision kind events t (decision.Refused i f) = IsRefusedAt kind events t i f
 IsDecision kind events t (decision.Open i u) =
     IsFirstFault (λ past. ShowsUndecided kind past u) kind events i × IsHard kind t (reverse events)
 
@@ -64,43 +71,69 @@ abbrev pub AreDecided : List Kind → List Event → Type 0
 AreDecided kinds past = (k : ℕ) (kind : Kind) → slice_get kinds k ≡ Some kind
     → IsDecided kind (part k past)
 
--- the calls have a linearization, or aren't decided; of a buffer nothing is said
-abbrev pub IsClear : Kind → List Event → Type 0
-IsClear kind past = HasOrderOf kind past ⊎ ((u : Cause) × ShowsUndecided kind past u)
+-- the calls of buffer k before position m, or before some later one, are not of the class that is
+-- always decided
+pub record IsHardFrom (n : ℕ) (past : List Event) (k m : ℕ) : Type 0 where
+  pub later : ℕ
+  pub from : m ≤ later
+  pub hard : IsHard (Buffer n) (clock past) (part k (until later past))
 
--- the calls of each object have a linearization, or aren't decided
-abbrev pub AreClear : List Kind → List Event → Type 0
-AreClear kinds past =
-    (k : ℕ) (kind : Kind) → slice_get kinds k ≡ Some kind → IsClear kind (part k past)
+-- the calls of buffer k before position m are of the class that is always decided, and so are those
+-- before each later one; and the last position of all is free
+pub record IsSimpleFrom (n : ℕ) (past : List Event) (k m : ℕ) : Type 0 where
+  pub room : clock past + 1 < 2 ^ 64
+  pub simple : (later : ℕ) → m ≤ later → IsSimple n (part k (until later past))
 
--- each prefix before position n is clear, and has a linearization if every object is decided
+-- the calls of object k before position m are decided; or it is a buffer whose calls are of that
+-- class from there on
+abbrev pub IsSettled : Kind → List Event → ℕ → ℕ → Type 0
+IsSettled (Buffer n) past k m =
+    HasOrderOf (Buffer n) (part k (until m past)) ⊎ IsSimpleFrom n past k m
+IsSettled kind past k m = IsDecided kind (part k (until m past))
+
+-- this holds of each object
+abbrev pub AreSettled : List Kind → List Event → ℕ → Type 0
+AreSettled kinds past m =
+    (k : ℕ) (kind : Kind) → slice_get kinds k ≡ Some kind → IsSettled kind past k m
+
+-- the calls of object k before position m have a linearization, or aren't decided: for a buffer,
+-- they are not of that class from there on
+abbrev pub IsClear : Kind → List Event → ℕ → ℕ → Type 0
+IsClear (Buffer n) past k m =
+    HasOrderOf (Buffer n) (part k (until m past)) ⊎ IsHardFrom n past k m
+IsClear kind past k m = HasOrderOf kind (part k (until m past))
+    ⊎ ((u : Cause) × ShowsUndecided kind (part k (until m past)) u)
+
+-- this holds of each object
+abbrev pub AreClear : List Kind → List Event → ℕ → Type 0
+AreClear kinds past m =
+    (k : ℕ) (kind : Kind) → slice_get kinds k ≡ Some kind → IsClear kind past k m
+
+-- each prefix before position n is clear, and has a linearization if every object is decided, or is
+-- a buffer whose calls are always of that class
 abbrev pub IsCleanBefore : List Kind → List Event → ℕ → Type 0
 IsCleanBefore kinds past n =
-    (m : ℕ) → m ≤ n → AreClear kinds (until m past)
-    × (AreDecided kinds (until m past)
+    (m : ℕ) → m ≤ n → AreClear kinds past m
+    × (AreSettled kinds past m
     → (cs : List Call) × IsAnsweredLinearization kinds (until m past) cs)
 
--- the calls have a linearization; of a buffer nothing is said
-abbrev pub IsOrdered : Kind → List Event → Type 0
-IsOrdered (Buffer n) past = Unit {0}
-IsOrdered kind past = HasOrderOf kind past
-
--- each prefix of the events of object k before position n has a linearization, if the object isn't
--- a buffer
+-- each prefix of the events of object k before position n has a linearization; or the object is a
+-- buffer, and its calls before position n are not of the class that is always decided
 abbrev pub IsOrderedBefore : List Kind → List Event → ℕ → ℕ → Type 0
 IsOrderedBefore kinds past k n = (kind : Kind) (m : ℕ) → slice_get kinds k ≡ Some kind → m ≤ n
-    → IsOrdered kind (part k (until m past))
+    → IsOrdered kind (clock past) (part k (until m past)) (part k (until n past))
 
 -- the event at this position is refused: with it, object k shows the fault; and before it neither
--- this object nor another does, except for buffers, of which nothing is said
+-- this object nor another does, except for buffers whose calls are not of the class that is always
+-- decided
 pub record IsFirstRefusal (kinds : List Kind) (past : List Event) (at k : ℕ) (f : Fault) : Type 0
   where
     pub shows : HasFault kinds (until (at + 1) past) k f
     pub own : IsOrderedBefore kinds past k at
     pub before : IsCleanBefore kinds past at
 
--- this object isn't decided, and no object shows a fault, except for buffers, of which nothing is
--- said
+-- this object isn't decided, and no object shows a fault, except for buffers whose calls are not of
+-- the class that is always decided
 pub record IsNotDecided (kinds : List Kind) (past : List Event) (u : Undecided) : Type 0 where
   pub shows : HasOpen kinds past u
   pub rest : IsCleanBefore kinds past (clock past)

@@ -17,7 +17,7 @@ pub enum Fault {
 }
 
 /// A faulty event of a history, the first one if no buffer is called. A fault of a buffer may be
-/// found late.
+/// found late, if its calls are not of the class that is always decided.
 #[derive(Debug, Drop)]
 pub struct Refusal {
     /// The position of the event.

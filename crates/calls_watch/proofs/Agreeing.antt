@@ -25,9 +25,11 @@ use Rattle.calls_verdict.specs.declared.verdict.Cause.TheVariants.{Values, Unfou
 use Rattle.calls_verdict.specs.declared.verdict.Refusal.{Refusal}
 use Rattle.calls_verdict.specs.declared.verdict.Undecided.{Undecided}
 use Rattle.calls_verdict.specs.Faults.{ShowsUndecided, IsDecided}
-use Rattle.calls_verdict.specs.Verdicts.{AreDecided, IsNotDecided, IsFirstRefusal, IsCleanBefore}
+use Rattle.calls_verdict.specs.Verdicts.{AreDecided, AreSettled, IsNotDecided, IsFirstRefusal}
+use Rattle.calls_verdict.specs.Verdicts.{IsCleanBefore}
 use Rattle.calls_verdict.proofs.Alternatives.{a_refusal_is_final}
-use Rattle.calls_verdict.proofs.OneFault.{until_past as until_end, ends_later, the_first_fault_is_one}
+use Rattle.calls_verdict.proofs.OneFault.{until_past as until_end, ends_later, decided_are_settled}
+use Rattle.calls_verdict.proofs.OneFault.{the_first_fault_is_one}
 use Rattle.calls_verdict.proofs.Untils.{until_all}
 use Rattle.calls_monitor.specs.declared.monitor.Refused.{Refused as Report}
 use Rattle.calls_text.specs.Recordings.{RecordingModel, AreKinds, IsRecording}
@@ -229,8 +231,9 @@ module _ (n : ℕ) (ps : List (List ℕ)) (m : ℕ) (r : RecordingModel) (x : Ev
   none_with_x : IsLinearizable ks (x ∷ stop.past) → ⊥
   none_with_x l = stop.refused.none (linearizable_alike ks stop.kinds back (x ∷ stop.past) l)
 
-  decided : AreDecided ks (x ∷ stop.past)
-  decided = are_decided ks (x ∷ stop.past) begun (stop.watched, stop.up_to.watched)
+  settled : AreSettled ks (more.late ++ x ∷ stop.past) (x.at + 1)
+  settled = decided_are_settled ks more.late stop.past x history
+      (are_decided ks (x ∷ stop.past) begun (stop.watched, stop.up_to.watched))
 
   not_whole : IsLinearizable ks (reverse o.recorded.events) → ⊥
   not_whole l =
@@ -240,7 +243,7 @@ module _ (n : ℕ) (ps : List (List ℕ)) (m : ℕ) (r : RecordingModel) (x : Ev
   same_event : (f : Refusal)
       → IsFirstRefusal ks (reverse o.recorded.events) f.at f.object f.fault → f.at ≡ x.at
   same_event f first =
-      the_first_fault_is_one ks more.late stop.past x f.at f.object f.fault history decided before_x
+      the_first_fault_is_one ks more.late stop.past x f.at f.object f.fault history settled before_x
       none_with_x
       (subst (λ (es : List Event). IsFirstRefusal ks es f.at f.object f.fault) more.are first)
 
@@ -251,8 +254,7 @@ module _ (n : ℕ) (ps : List (List ℕ)) (m : ℕ) (r : RecordingModel) (x : Ev
       let clean : IsCleanBefore ks whole (clock whole) =
       subst (λ (es : List Event). IsCleanBefore ks es (clock es)) more.are open_one.rest in
       let up_to : until (clock past) whole ≡ past = until_end ks more.late past history in
-      let order = (clean (clock past) (ends_later ks more.late past history)).1
-      (subst (AreDecided ks) (sym up_to) decided) in
+      let order = (clean (clock past) (ends_later ks more.late past history)).1 settled in
       let own : IsAnsweredLinearization ks past order.0 =
       subst (λ (es : List Event). IsAnsweredLinearization ks es order.0) up_to order.1 in
       let late = answers_become_responses ks past order.0 begun own in

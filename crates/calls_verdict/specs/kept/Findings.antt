@@ -44,7 +44,7 @@ pub record ArePlaced (kinds : List Kind) (past : List Event) (n : ℕ) (ps : Lis
 -- the findings are those of the first n objects
 pub record AreFound (kinds : List Kind) (past : List Event) (n : ℕ) (found : Findings) : Type 0 where
   pub clear : (k : ℕ) (kind : Kind) → k < n → slice_get kinds k ≡ Some kind → (m : ℕ)
-      → m ≤ limit (clock past) found.refusal → IsClear kind (until m (part k past))
+      → m ≤ limit (clock past) found.refusal → IsClear kind past k m
   pub refused : IsRefused kinds past found.refusal
   pub undecided : IsOpen kinds past found.undecided
   pub placed : found.refusal ≡ None → found.undecided ≡ None

@@ -1,13 +1,23 @@
-use Rattle.std.proofs.Common.{◌≡◌, ◌+◌, ◌≤◌, take, reverse, arith, subst, sym}
+use Rattle.std.proofs.Common.{◌≡◌, ◌+◌, ◌≤◌, inl, reverse, arith, subst, sym}
 use Rattle.calls_core.specs.declared.history.Kind.TheVariants.{Buffer}
 use Rattle.calls_core.specs.Histories.{IsHistoryOf, clock}
 use Rattle.calls_core.specs.Beginnings.{past_at}
 use Rattle.calls_core.proofs.Beginnings.{history_at}
+use Rattle.calls_distinct.proofs.Earlier.{order_of_none as nothing_ordered}
 use Rattle.calls_cells.proofs.Trying.{before_end}
+use Rattle.calls_buffers.specs.declared.deciding.Outcome.TheVariants.{Ordered, Refused, NotDecided}
 use Rattle.calls_buffers.specs.Faults.{Shows}
-use Rattle.calls_buffers.specs.Outcomes.{IsOutcome}
+use Rattle.calls_verdict.proofs.Halving.{narrowed}
 use Rattle.calls_verdict.proofs.buffers.refuse.Goals.{in-Refused, in-Ordered, in-NotDecided}
 use Rattle.calls_verdict.proofs.buffers.refuse.Goals as goal
+
+pub loop-high-init : goal.loop-high-init
+loop-high-init c = record {
+  apart = c.requires.some;
+  within = c.requires.within;
+  shown = c.requires.shown;
+  ordered = inl (nothing_ordered (Buffer c.args.room));
+}
 
 pub decide-requires-clause-history : goal.decide-requires-clause-history
 decide-requires-clause-history c =
@@ -22,45 +32,47 @@ decide-requires-clause-end c =
 
 pub loop-high-preserved-after-branch-2 : goal.loop-high-preserved-after-branch-2
 loop-high-preserved-after-branch-2 c =
-    let events = c.args.events.now in
-    let mid = c.next_between-mid.result in
-    let above = c.next_between-mid.ensures.above in
-    let below = c.next_between-mid.ensures.below in
-    let inside = c.loop-high.invariant.within in
+    let next = narrowed c.args.room c.args.end c.args.events.now c.requires.history c.requires.late
+    c.loop-high.low c.loop-high.high c.next_between-mid.result c.loop-high.fault
+    c.loop-high.invariant c.next_between-mid.ensures.above c.next_between-mid.ensures.below
+    c.first-beginning.result c.in_ok-found.field-0 in
     elim c.match-branch-2.branch [
-      | in-Refused w ↦
-          (let low = w.low-is in
-          let high = w.high-is in
-          let found : Shows c.args.room (past_at mid events) w.in-Refused.found =
-          subst (IsOutcome c.args.room (take mid events) c.args.end) w.in-Refused.is
-          (subst (λ zs. IsOutcome c.args.room zs c.args.end c.in_ok-found.field-0)
-          c.first-beginning.ensures c.in_ok-found.ensures) in
-          record {
-            apart = omega arith;
-            within = omega arith;
-            shown = subst (λ n. Shows c.args.room (past_at n events) c.match-branch-2.fault)
-                (sym high) (subst (Shows c.args.room (past_at mid events)) (sym w.fault-is) found);
-          })
-      | in-Ordered w ↦
-          (let low = w.low-is in
-          let high = w.high-is in
-          record {
-            apart = omega arith;
-            within = omega arith;
-            shown = subst (λ n. Shows c.args.room (past_at n events) c.match-branch-2.fault)
-                (sym high) (subst (Shows c.args.room (past_at c.loop-high.high events))
-                (sym w.fault-is) c.loop-high.invariant.shown);
-          })
-      | in-NotDecided w ↦
-          (let low = w.low-is in
-          let high = w.high-is in
-          record {
-            apart = omega arith;
-            within = omega arith;
-            shown = subst (λ n. Shows c.args.room (past_at n events) c.match-branch-2.fault)
-                (sym high) (subst (Shows c.args.room (past_at c.loop-high.high events))
-                (sym w.fault-is) c.loop-high.invariant.shown);
-          })
+      | in-Refused w ↦ next (Refused w.in-Refused.found) _ _ _ c.first-beginning.ensures
+          c.in_ok-found.ensures w.in-Refused.is (w.low-is, w.high-is, w.fault-is)
+      | in-Ordered w ↦ next (Ordered w.in-Ordered.field-0) _ _ _ c.first-beginning.ensures
+          c.in_ok-found.ensures w.in-Ordered.is (w.low-is, w.high-is, w.fault-is)
+      | in-NotDecided w ↦ next NotDecided _ _ _ c.first-beginning.ensures
+          c.in_ok-found.ensures w.in-NotDecided.is (w.low-is, w.high-is, w.fault-is)
+    ]
+
+pub loop-high-preserved-after-branch-2-7 : goal.loop-high-preserved-after-branch-2-7
+loop-high-preserved-after-branch-2-7 c =
+    let next = narrowed c.args.room c.args.end c.args.events.now c.requires.history c.requires.late
+    c.loop-high.low c.loop-high.high c.next_between-mid.result c.loop-high.fault
+    c.loop-high.invariant c.next_between-mid.ensures.above c.next_between-mid.ensures.below
+    c.first-beginning.result c.in_ok-found.field-0 in
+    elim c.match-branch-2.branch [
+      | in-Refused w ↦ next (Refused w.in-Refused.found) _ _ _ c.first-beginning.ensures
+          c.in_ok-found.ensures w.in-Refused.is (w.low-is, w.high-is, w.fault-is)
+      | in-Ordered w ↦ next (Ordered w.in-Ordered.field-0) _ _ _ c.first-beginning.ensures
+          c.in_ok-found.ensures w.in-Ordered.is (w.low-is, w.high-is, w.fault-is)
+      | in-NotDecided w ↦ next NotDecided _ _ _ c.first-beginning.ensures
+          c.in_ok-found.ensures w.in-NotDecided.is (w.low-is, w.high-is, w.fault-is)
+    ]
+
+pub loop-high-preserved : goal.loop-high-preserved
+loop-high-preserved c =
+    let next = narrowed c.args.room c.args.end c.args.events.now c.requires.history c.requires.late
+    c.loop-high.low c.loop-high.high c.next_between-mid.result c.loop-high.fault
+    c.loop-high.invariant c.next_between-mid.ensures.above c.next_between-mid.ensures.below
+    c.first-beginning.result c.in_ok-found.field-0 in
+    elim c.match-branch-2.branch [
+      | in-Refused w ↦ next (Refused w.in-Refused.found) _ _ _ c.first-beginning.ensures
+          c.in_ok-found.ensures w.in-Refused.is (w.low-is, w.high-is, w.fault-is)
+      | in-Ordered w ↦ next (Ordered w.in-Ordered.field-0) _ _ _ c.first-beginning.ensures
+          c.in_ok-found.ensures w.in-Ordered.is (w.low-is, w.high-is, w.fault-is)
+      | in-NotDecided w ↦ next NotDecided _ _ _ c.first-beginning.ensures
+          c.in_ok-found.ensures w.in-NotDecided.is (w.low-is, w.high-is, w.fault-is)
     ]
 
 pub returns : goal.returns
@@ -70,4 +82,5 @@ returns c =
       omega (arith, c.loop-high.invariant.within),
       subst (λ n. Shows c.args.room (past_at n c.args.events.now) c.loop-high.fault)
           (sym one) c.loop-high.invariant.shown,
+      c.loop-high.invariant.ordered,
     )
