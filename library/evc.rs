@@ -91,7 +91,7 @@ pub struct Load {
 }
 
 /// Judges histories of calls line by line, as `evc-calls watch` does, in memory that does not grow with them; but the
-/// text of one that declares cells, databases or buffers is kept until its end.
+/// text of one that declares cells, databases, or buffers with several producers or consumers is kept until its end.
 ///
 ///     let mut monitor = evc::Monitor::new()?;
 ///     for line in lines {

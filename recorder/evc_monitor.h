@@ -300,7 +300,8 @@ static inline int evc_monitor_by_program(void *state, const char *line, size_t l
 
 #ifdef EVC_H
 /* A judge: the library's monitor. It rejects a line when it comes, and takes histories of any
- * length. One with calls of cells, databases or buffers is kept, and decided at its end. */
+ * length. One with calls of cells, databases, or buffers with several producers or consumers is
+ * kept, and decided at its end. */
 typedef struct evc_monitor_library {
     struct evc_monitor monitor;
     char note[EVC_NOTES_ROOM + 1]; /* why it judges no more */

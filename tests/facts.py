@@ -48,7 +48,7 @@ LIMITS = {
         ("ec_heading/src/heading.rt", r"LINE_MAX: usize = ([\d_]+)"),
         ("ec_script/src/parsing.rt", r"SCRIPT_MAX: usize = ([\d_]+)"),
     ],
-    "bytes of a trace or history; none with `watch` without cells, databases, buffers": [
+    "bytes of a trace or history; none with `watch` if judged by event": [
         ("ec_trace/src/read.rt", r"TRACE_MAX: usize = ([\d_]+)")
     ],
     "entries of a picture": [("ec_draw/src/window.rt", r"COLUMNS_MAX: usize = ([\d_]+)")],

@@ -26,7 +26,7 @@ fn ordered(alloc: Global, kinds: &[Kind], events: &[Event]) -> Result<Option<usi
 
 /// Passes a history to a monitor, and returns how many events it accepts.
 fn watched(alloc: Global, kinds: &[Kind], events: &[Event]) -> Result<Option<usize>, AllocError> {
-    let mut monitor = Monitor::open(alloc, kinds)?;
+    let mut monitor = Monitor::open(alloc, kinds, &[])?;
     for (index, event) in events.iter().enumerate() {
         if monitor.event(*event).is_err() {
             return Ok(Some(index));

@@ -1,5 +1,5 @@
 -- The monitor of one object, kind by kind.
-use Rattle.std.proofs.Common.{◌≡◌, ℕ, ◌+◌, ◌-◌, ◌^◌, ◌≤◌, arith, List, [], ◌∷◌, length}
+use Rattle.std.proofs.Common.{◌≡◌, ℕ, ◌+◌, ◌-◌, ◌^◌, ◌≤◌, arith, true, false, List, [], ◌∷◌, length}
 use Rattle.std.proofs.Common.{None, Result, Ok, Err, MatchResult, IsErrAnd, ap, sym, ◌∙◌, subst}
 use Rattle.std.proofs.lemmas.List.{length-map}
 use Rattle.std.proofs.lemmas.List.Sorted.{IsPermutation-refl}
@@ -24,15 +24,18 @@ use Rattle.calls_tickets.specs.Monitors.{IsAccepted as IsTicketed, Watches as Ti
 use Rattle.calls_semaphores.specs.declared.monitor.Monitor.{Monitor as UnitMonitor}
 use Rattle.calls_semaphores.specs.Monitors.{Grows, UpTo, Judges as UnitJudges}
 use Rattle.calls_semaphores.specs.declared.fault.Fault.{Fault}
+use Rattle.calls_spsc.specs.declared.monitor.Monitor.{Monitor as ItemMonitor}
+use Rattle.calls_spsc.specs.Monitors.{IsAccepted as IsFlowing, Watches as ItemWatches}
 use Rattle.calls_monitor.specs.declared.object.Watch.{Watch}
-use Rattle.calls_monitor.specs.declared.object.Watch.TheVariants.{Count, Ticket, Units, Nothing}
+use Rattle.calls_monitor.specs.declared.object.Watch.TheVariants.{Count, Ticket, Units, Items}
+use Rattle.calls_monitor.specs.declared.object.Watch.TheVariants.{Nothing}
 use Rattle.calls_monitor.specs.declared.object.Refusal.{Refusal}
 use Rattle.calls_monitor.specs.declared.object.Refusal.TheVariants.{Count as CountRefusal}
 use Rattle.calls_monitor.specs.declared.object.Refusal.TheVariants.{Ticket as TicketRefusal}
 use Rattle.calls_monitor.specs.declared.object.Refusal.TheVariants.{Units as UnitRefusal}
+use Rattle.calls_monitor.specs.declared.object.Refusal.TheVariants.{Items as ItemRefusal}
 use Rattle.calls_monitor.specs.Refusals.{Explains}
-use Rattle.calls_monitor.specs.Monitors.{IsWatched}
-use Rattle.calls_monitor.specs.kept.Watching.{call_count, WatchesOf, RoomFor, VerdictOf}
+use Rattle.calls_monitor.specs.kept.Watching.{call_count, WatchesOf, RoomFor, VerdictOf, has_monitor}
 use Rattle.calls_monitor.proofs.Begun.{one, begun_next, advances_few}
 
 -- NO EVENTS
@@ -55,56 +58,74 @@ count_opened n m s = taken_by n [] m s.0 tt
 pub ticket_opened : (m : TicketMonitor) → TicketWatches [] m → IsTicketed [] m
 ticket_opened m w = record { watches = w; order = order_of_none Sequencer }
 
+pub items_opened : (n : ℕ) (m : ItemMonitor) → ItemWatches n [] m → IsFlowing n [] m
+items_opened n m w = record { watches = w; order = order_of_none (Buffer n) }
+
 -- WHAT IS KNOWN OF A LINEARIZATION
 
-pub order_of_watch : (kind : Kind) (past : List Event) (w : Watch) → IsWatched kind
-    → WatchesOf kind past w → HasOrderOf kind past
-order_of_watch (Eventcount n) past (Count m) y h = h.order
-order_of_watch (Eventcount n) past (Ticket m) y h = absurd h
-order_of_watch (Eventcount n) past (Units m) y h = absurd h
-order_of_watch (Eventcount n) past Nothing y h = absurd h
-order_of_watch Sequencer past (Count m) y h = absurd h
-order_of_watch Sequencer past (Ticket m) y h = h.order
-order_of_watch Sequencer past (Units m) y h = absurd h
-order_of_watch Sequencer past Nothing y h = absurd h
-order_of_watch (Semaphores units) past (Count m) y h = absurd h
-order_of_watch (Semaphores units) past (Ticket m) y h = absurd h
-order_of_watch (Semaphores units) past (Units m) y h = h.0.order
-order_of_watch (Semaphores units) past Nothing y h = absurd h
-order_of_watch Cell past (Count m) y h = absurd y
-order_of_watch Cell past (Ticket m) y h = absurd h
-order_of_watch Cell past (Units m) y h = absurd h
-order_of_watch Cell past Nothing y h = absurd y
-order_of_watch (Database n) past (Count m) y h = absurd h
-order_of_watch (Database n) past (Ticket m) y h = absurd h
-order_of_watch (Database n) past (Units m) y h = absurd h
-order_of_watch (Database n) past Nothing y h = absurd y
-order_of_watch (Buffer n) past (Count m) y h = absurd h
-order_of_watch (Buffer n) past (Ticket m) y h = absurd h
-order_of_watch (Buffer n) past (Units m) y h = absurd h
-order_of_watch (Buffer n) past Nothing y h = absurd y
+no_calls : (kind : Kind) (past : List Event) → past ≡ [] → HasOrderOf kind past
+no_calls kind past none = subst (HasOrderOf kind) (sym none) (order_of_none kind)
+
+pub order_of_watch : (kind : Kind) (past : List Event) (w : Watch) → WatchesOf kind past w
+    → HasOrderOf kind past
+order_of_watch (Eventcount n) past (Count m) h = h.order
+order_of_watch (Eventcount n) past (Ticket m) h = absurd h
+order_of_watch (Eventcount n) past (Units m) h = absurd h
+order_of_watch (Eventcount n) past (Items m) h = absurd h
+order_of_watch (Eventcount n) past Nothing h = absurd h
+order_of_watch Sequencer past (Count m) h = absurd h
+order_of_watch Sequencer past (Ticket m) h = h.order
+order_of_watch Sequencer past (Units m) h = absurd h
+order_of_watch Sequencer past (Items m) h = absurd h
+order_of_watch Sequencer past Nothing h = absurd h
+order_of_watch (Semaphores units) past (Count m) h = absurd h
+order_of_watch (Semaphores units) past (Ticket m) h = absurd h
+order_of_watch (Semaphores units) past (Units m) h = h.0.order
+order_of_watch (Semaphores units) past (Items m) h = absurd h
+order_of_watch (Semaphores units) past Nothing h = absurd h
+order_of_watch Cell past (Count m) h = absurd h
+order_of_watch Cell past (Ticket m) h = absurd h
+order_of_watch Cell past (Units m) h = absurd h
+order_of_watch Cell past (Items m) h = absurd h
+order_of_watch Cell past Nothing h = no_calls Cell past h
+order_of_watch (Database n) past (Count m) h = absurd h
+order_of_watch (Database n) past (Ticket m) h = absurd h
+order_of_watch (Database n) past (Units m) h = absurd h
+order_of_watch (Database n) past (Items m) h = absurd h
+order_of_watch (Database n) past Nothing h = no_calls (Database n) past h
+order_of_watch (Buffer n) past (Count m) h = absurd h
+order_of_watch (Buffer n) past (Ticket m) h = absurd h
+order_of_watch (Buffer n) past (Units m) h = absurd h
+order_of_watch (Buffer n) past (Items m) h = h.order
+order_of_watch (Buffer n) past Nothing h = no_calls (Buffer n) past h
 
 pub none_of : (kind : Kind) (past : List Event) (x : Event) (r : Refusal) → Explains kind past x r
     → HasOrderOf kind (x ∷ past) → ⊥
 none_of (Eventcount n) past x (CountRefusal f) e = e.none
 none_of (Eventcount n) past x (TicketRefusal f) e = λ o. e
 none_of (Eventcount n) past x (UnitRefusal f) e = λ o. e
+none_of (Eventcount n) past x (ItemRefusal f) e = λ o. e
 none_of Sequencer past x (CountRefusal f) e = λ o. e
 none_of Sequencer past x (TicketRefusal f) e = e.none
 none_of Sequencer past x (UnitRefusal f) e = λ o. e
+none_of Sequencer past x (ItemRefusal f) e = λ o. e
 none_of (Semaphores units) past x (CountRefusal f) e = λ o. e
 none_of (Semaphores units) past x (TicketRefusal f) e = λ o. e
 none_of (Semaphores units) past x (UnitRefusal f) e = λ o.
     e.none (clock (x ∷ past)) (omega arith) o.0 o.1
+none_of (Semaphores units) past x (ItemRefusal f) e = λ o. e
 none_of Cell past x (CountRefusal f) e = λ o. e
 none_of Cell past x (TicketRefusal f) e = λ o. e
 none_of Cell past x (UnitRefusal f) e = λ o. e
+none_of Cell past x (ItemRefusal f) e = λ o. e
 none_of (Database n) past x (CountRefusal f) e = λ o. e
 none_of (Database n) past x (TicketRefusal f) e = λ o. e
 none_of (Database n) past x (UnitRefusal f) e = λ o. e
+none_of (Database n) past x (ItemRefusal f) e = λ o. e
 none_of (Buffer n) past x (CountRefusal f) e = λ o. e
 none_of (Buffer n) past x (TicketRefusal f) e = λ o. e
 none_of (Buffer n) past x (UnitRefusal f) e = λ o. e
+none_of (Buffer n) past x (ItemRefusal f) e = e.none
 
 -- ROOM
 
@@ -138,34 +159,40 @@ module _ (x : Event) (past : List Event) (a : Action)
       (sym (length-map os (λ (u : NotedCall). u.call)) ∙ sym
       (ap length t.watches.follows.pending_is)) room
 
-  pub roomy : (kind : Kind) (w : Watch) → IsHistoryOf kind past → WatchesOf kind past w
-      → RoomFor w a
-  roomy (Eventcount n) (Count m) y h = count_roomy n m y h
-  roomy (Eventcount n) (Ticket m) y h = absurd h
-  roomy (Eventcount n) (Units m) y h = absurd h
-  roomy (Eventcount n) Nothing y h = absurd h
-  roomy Sequencer (Count m) y h = absurd h
-  roomy Sequencer (Ticket m) y h = ticket_roomy m h
-  roomy Sequencer (Units m) y h = absurd h
-  roomy Sequencer Nothing y h = absurd h
-  roomy (Semaphores units) (Count m) y h = absurd h
-  roomy (Semaphores units) (Ticket m) y h = absurd h
-  roomy (Semaphores units) (Units m) y h = at_most a (length m.pending.items)
+  pub roomy : (kind : Kind) (w : Watch) → has_monitor w ≡ true → IsHistoryOf kind past
+      → WatchesOf kind past w → RoomFor w a
+  roomy (Eventcount n) (Count m) is y h = count_roomy n m y h
+  roomy (Eventcount n) (Ticket m) is y h = absurd h
+  roomy (Eventcount n) (Units m) is y h = absurd h
+  roomy (Eventcount n) (Items m) is y h = absurd h
+  roomy (Eventcount n) Nothing is y h = absurd h
+  roomy Sequencer (Count m) is y h = absurd h
+  roomy Sequencer (Ticket m) is y h = ticket_roomy m h
+  roomy Sequencer (Units m) is y h = absurd h
+  roomy Sequencer (Items m) is y h = absurd h
+  roomy Sequencer Nothing is y h = absurd h
+  roomy (Semaphores units) (Count m) is y h = absurd h
+  roomy (Semaphores units) (Ticket m) is y h = absurd h
+  roomy (Semaphores units) (Units m) is y h = at_most a (length m.pending.items)
       (length (pending_calls past))
       (ap length h.0.pending) room
-  roomy (Semaphores units) Nothing y h = absurd h
-  roomy Cell (Count m) y h = absurd h
-  roomy Cell (Ticket m) y h = absurd h
-  roomy Cell (Units m) y h = absurd h
-  roomy Cell Nothing y h = tt
-  roomy (Database n) (Count m) y h = absurd h
-  roomy (Database n) (Ticket m) y h = absurd h
-  roomy (Database n) (Units m) y h = absurd h
-  roomy (Database n) Nothing y h = tt
-  roomy (Buffer n) (Count m) y h = absurd h
-  roomy (Buffer n) (Ticket m) y h = absurd h
-  roomy (Buffer n) (Units m) y h = absurd h
-  roomy (Buffer n) Nothing y h = tt
+  roomy (Semaphores units) (Items m) is y h = absurd h
+  roomy (Semaphores units) Nothing is y h = absurd h
+  roomy Cell (Count m) is y h = absurd h
+  roomy Cell (Ticket m) is y h = absurd h
+  roomy Cell (Units m) is y h = absurd h
+  roomy Cell (Items m) is y h = absurd h
+  roomy Cell Nothing is y h = absurd (let never : false ≡ true = is in cc)
+  roomy (Database n) (Count m) is y h = absurd h
+  roomy (Database n) (Ticket m) is y h = absurd h
+  roomy (Database n) (Units m) is y h = absurd h
+  roomy (Database n) (Items m) is y h = absurd h
+  roomy (Database n) Nothing is y h = absurd (let never : false ≡ true = is in cc)
+  roomy (Buffer n) (Count m) is y h = absurd h
+  roomy (Buffer n) (Ticket m) is y h = absurd h
+  roomy (Buffer n) (Units m) is y h = absurd h
+  roomy (Buffer n) (Items m) is y h = tt
+  roomy (Buffer n) Nothing is y h = absurd (let never : false ≡ true = is in cc)
 
 -- UNITS
 

@@ -1,3 +1,4 @@
+pub mod Watched
 pub mod Refusals
 pub mod kept
 pub mod Monitors

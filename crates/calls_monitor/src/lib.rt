@@ -6,5 +6,5 @@ mod object;
 mod whole;
 
 pub use monitor::{Monitor, Refused, Rejection};
-pub use object::Refusal;
+pub use object::{Refusal, has_fit_room};
 pub use whole::{Stop, watch};

@@ -35,16 +35,23 @@ pub enum Rejection {
     Refused(Refused),
     /// The event invokes a call while `WORKERS` calls are pending. The monitor is unchanged.
     Full,
+    /// The event invokes a call of a cell, a database, or a buffer that is not watched. The monitor
+    /// must not be used again.
+    Unwatched,
 }
 
 impl Monitor {
     /// Returns a monitor of objects of these kinds. This allocates, and `event` does not.
-    pub fn open(alloc: Global, kinds: &[Kind]) -> Result<Self, AllocError>
-        ensures { IfOk result (Watches kinds.now []) }
+    ///
+    /// `spsc` has the indices of buffers of which at most one produce and at most one consume are
+    /// pending at a time. They are watched if they have room for at most 256 items.
+    pub fn open(alloc: Global, kinds: &[Kind], spsc: &[usize]) -> Result<Self, AllocError>
+        ensures { IfOk result (Watches kinds.now spsc.now []) }
     {
         let mut objects = Vec::with_capacity(alloc, kinds.len())?;
         for kind in kinds {
-            objects.push(Watch::open(alloc, kind)?)?;
+            let is_spsc = spsc.contains(&objects.len());
+            objects.push(Watch::open(alloc, kind, is_spsc)?)?;
         }
         Ok(Monitor {
             objects,
@@ -84,6 +91,9 @@ impl Monitor {
     {
         if object >= self.objects.len() {
             return Ok(());
+        }
+        if !self.objects[object].has_monitor() {
+            return Err(Rejection::Unwatched);
         }
         if !self.objects[object].has_room(event.action) {
             return Err(Rejection::Full);

@@ -2,6 +2,7 @@
 ghost use Rattle.std.specs.Prelude.{IfOk, reverse};
 ghost use Rattle.calls_core.specs.Histories.{IsHistory};
 ghost use Rattle.calls_monitor.specs.Monitors.{IsWatchedTo};
+ghost use Rattle.calls_monitor.specs.Watched.{AreSpsc};
 
 use crate::{Monitor, Rejection};
 use calls_core::{Event, Kind};
@@ -17,11 +18,20 @@ pub struct Stop {
 }
 
 /// Passes the events of a history to a monitor, and returns the first that it doesn't accept.
-pub fn watch(alloc: Global, kinds: &[Kind], events: &[Event]) -> Result<Option<Stop>, AllocError>
-    requires { IsHistory kinds.now (reverse events.now) }
-    ensures { IfOk result (IsWatchedTo kinds.now events.now) }
+///
+/// `spsc` has the indices of buffers with one producer and one consumer, as `Monitor::open` takes
+/// them.
+pub fn watch(
+    alloc: Global,
+    kinds: &[Kind],
+    spsc: &[usize],
+    events: &[Event],
+) -> Result<Option<Stop>, AllocError>
+    requires history { IsHistory kinds.now (reverse events.now) }
+    requires spsc { AreSpsc spsc.now (reverse events.now) }
+    ensures { IfOk result (IsWatchedTo kinds.now spsc.now events.now) }
 {
-    let mut monitor = Monitor::open(alloc, kinds)?;
+    let mut monitor = Monitor::open(alloc, kinds, spsc)?;
     for (index, event) in events.iter().enumerate() {
         if let Err(rejection) = monitor.event(*event) {
             return Ok(Some(Stop { index, rejection }));

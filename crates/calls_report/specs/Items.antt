@@ -12,7 +12,8 @@ use Rattle.calls_core.specs.declared.history.Reply.TheVariants.{Number}
 use Rattle.calls_core.specs.declared.history.Call.{Call}
 use Rattle.calls_schedule.specs.declared.job.Bound.{Bound}
 use Rattle.calls_text.specs.Recordings.{first_group}
-use Rattle.calls_report.specs.Sites.{SiteModel, line_of}
+use Rattle.calls_text.specs.Spelling.{store_word}
+use Rattle.calls_report.specs.Sites.{SiteModel, line_of, earlier_text}
 
 -- how many items a buffer has room for
 abbrev pub room_of : Group → ℕ
@@ -30,6 +31,9 @@ put_item _ = 0
 abbrev pub taken_item : Reply → ℕ
 taken_item (Number v) = v
 taken_item _ = 0
+
+abbrev pub returned_item : Call → List ℕ
+returned_item c = codes "returned " ++ decimal (taken_item c.reply)
 
 -- a number, and a noun in the singular or the plural
 abbrev pub some : ℕ → List ℕ → List ℕ
@@ -84,20 +88,36 @@ overtaken_text s p c before later all =
     ++ decimal (taken_item c.reply) ++ codes ", but consumed after line " ++ line_of s c.last
     ++ codes " had returned that" ++ of_all s p c before later all
 
+-- items that no consume called up to a position has returned
+abbrev pub untaken_text : SiteModel → ℕ → ℕ → List ℕ
+untaken_text s left n =
+    some left (codes "item") ++ codes " had been put in that no consume called by line "
+    ++ line_of s n ++ codes " has returned"
+
+-- the item of the consume was not yet produced
+abbrev pub unmade_text : SiteModel → Call → Call → List ℕ
+unmade_text s p c =
+    codes ", but by line " ++ line_of s p.last ++ codes ", before any "
+    ++ decimal (taken_item c.reply) ++ codes " was produced, "
+
+-- how many of the consumes are pending
+abbrev pub only_pending : ℕ → List ℕ
+only_pending n = codes ", with only " ++ decimal n ++ codes " of these consumes pending"
+
+-- this, if any is
+abbrev pub any_pending : ℕ → List ℕ
+any_pending n = if n == 0 then [] else only_pending n
+
 -- items were not taken, and one that was put in later was
 abbrev pub passed_text : SiteModel → Call → Call → ℕ → ℕ → List ℕ
 passed_text s p c left pending =
-    by_line s p.last ++ some left (codes "item") ++ codes " had been put in, and no "
-    ++ decimal (taken_item c.reply) ++ codes " produced; line " ++ line_of s c.last
-    ++ codes " returned that, and no consume called by then has returned the others, with "
-    ++ decimal pending ++ codes " of these pending"
+    earlier_text s c.last ++ returned_item c ++ unmade_text s p c ++ untaken_text s left c.last
+    ++ any_pending pending
 
 -- the buffer was full, and one item more was put in
 abbrev pub squeezed_text : SiteModel → Call → Call → ℕ → ℕ → List ℕ
 squeezed_text s q p left pending =
-    by_line s q.last ++ some left (codes "item")
-    ++ codes " had been put in that no consume called by line " ++ line_of s p.last
-    ++ codes " has returned" ++ pending_text s pending ++ codes "; and "
+    by_line s q.last ++ untaken_text s left p.last ++ pending_text s pending ++ codes "; and "
     ++ decimal (put_item p.op) ++ codes ", put in once, by then, was not taken by line "
     ++ line_of s q.last
 
@@ -128,3 +148,37 @@ chain_text s b bs = bound_text s b ++ further_bounds s bs
 abbrev pub overdue_text : SiteModel → List Bound → List ℕ
 overdue_text s [] = []
 overdue_text s (b ∷ bs) = chain_text s b bs
+
+-- BUFFERS THAT ARE JUDGED EVENT BY EVENT
+
+-- the name of the buffer
+abbrev pub in_buffer : SiteModel → List ℕ
+in_buffer s = codes " in " ++ store_word s.heading s.object
+
+-- a consume returned an item, and this one was next
+abbrev pub not_next_text : SiteModel → Call → ℕ → List ℕ
+not_next_text s c next =
+    returned_item c ++ codes ", but the next item" ++ in_buffer s ++ codes " was " ++ decimal next
+
+-- a consume returned an item, and none was left
+abbrev pub no_item_text : SiteModel → Call → List ℕ
+no_item_text s c = returned_item c ++ codes ", but no item was left" ++ in_buffer s
+
+-- a produce returned, and there was no room for its item
+abbrev pub no_room_text : SiteModel → Call → List ℕ
+no_room_text s c =
+    codes "put " ++ decimal (put_item c.op) ++ codes " in, but no room was left" ++ in_buffer s
+
+-- a produce gave up, and a consume had returned its item
+abbrev pub gave_up_on_text : ℕ → List ℕ
+gave_up_on_text v = codes "gave up on " ++ decimal v ++ codes ", but a consume had returned it"
+
+-- a consume gave up, and a produce had needed the room that it made
+abbrev pub made_room_text : SiteModel → List ℕ
+made_room_text s =
+    codes "gave up, but there was room" ++ in_buffer s ++ codes " only if it took an item"
+
+-- a call gave up, and must have taken effect
+abbrev pub gave_up_text : SiteModel → Op → List ℕ
+gave_up_text s (Produce v) = gave_up_on_text v
+gave_up_text s _ = made_room_text s

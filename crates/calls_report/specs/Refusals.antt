@@ -14,7 +14,8 @@ use Rattle.calls_tickets.specs.Faults.{number}
 use Rattle.calls_text.specs.Recordings.{first_sequencer, first_group}
 use Rattle.calls_text.specs.Spelling.{event_word, sequencer_word, group_word, store_word, numbers_of_value}
 use Rattle.calls_text.specs.Spelling.{numbers_after_spaces}
-use Rattle.calls_report.specs.Sites.{SiteModel, line_of}
+use Rattle.calls_report.specs.Sites.{SiteModel, line_of, earlier_text}
+use Rattle.calls_report.specs.Items.{not_next_text, no_item_text, no_room_text, gave_up_text}
 use Rattle.calls_report.specs.Faults.{item_text}
 use Rattle.calls_report.specs.declared.certificate.Certificate.{Certificate}
 use Rattle.calls_report.specs.declared.certificate.Certificate.TheVariants as shows
@@ -107,10 +108,6 @@ had_number s a = but_line s a.last ++ codes " had " ++ number_text a
 -- a greater number was returned before
 abbrev pub turned_text : SiteModel → Call → Call → List ℕ
 turned_text s a b = number_text b ++ had_number s a ++ before_text s b
-
--- the line of an earlier call
-abbrev pub earlier_text : SiteModel → ℕ → List ℕ
-earlier_text s n = if n == s.at then [] else codes "line " ++ line_of s n ++ codes " had "
 
 abbrev pub tickets_word : ℕ → List ℕ
 tickets_word n = if n == 1 then codes " ticket of " else codes " tickets of "
@@ -265,3 +262,7 @@ certificate_text s (shows.Stale c d) = stale_text s c d
 certificate_text s (shows.Alternate a b c d) = alternate_text s a b c d
 certificate_text s (shows.NoneLeft gets) = none_left_text s gets.now
 certificate_text s (shows.Items f) = item_text s f.now
+certificate_text s (shows.NotNext c next) = not_next_text s c next
+certificate_text s (shows.NoItem c) = no_item_text s c
+certificate_text s (shows.NoRoom c) = no_room_text s c
+certificate_text s (shows.Needed c) = gave_up_text s c.op

@@ -61,6 +61,15 @@ pub enum Certificate<'a> {
     NoneLeft(&'a [Call]),
     /// The calls of a buffer show this.
     Items(&'a calls_buffers::Fault),
+    /// A consume of a buffer returned an item, and this one was next.
+    NotNext(Call, usize),
+    /// A consume of a buffer returned an item, and none was left.
+    NoItem(Call),
+    /// A produce of a buffer returned, and there was no room for its item.
+    NoRoom(Call),
+    /// A call of a buffer gave up, and must have taken effect: its item was returned, or there was
+    /// room only if it took one.
+    Needed(Call),
 }
 
 /// Returns how many advances of an object lie between two positions.

@@ -5,6 +5,9 @@ ghost use Rattle.calls_report.specs.Items.{room_of, room_in, some, by_line, put_
 ghost use Rattle.calls_report.specs.Items.{room_text, pending_text, unproduced_text};
 ghost use Rattle.calls_report.specs.Items.{overfull_text, crowded_text, counts_text, of_all};
 ghost use Rattle.calls_report.specs.Items.{overtaken_text, passed_text, squeezed_text};
+ghost use Rattle.calls_report.specs.Items.{returned_item, untaken_text, unmade_text, any_pending};
+ghost use Rattle.calls_report.specs.Items.{in_buffer, not_next_text, no_item_text, no_room_text};
+ghost use Rattle.calls_report.specs.Items.{only_pending, gave_up_on_text, made_room_text, gave_up_text};
 ghost use Rattle.calls_report.specs.Faults.{item_text};
 ghost use Rattle.calls_report.specs.Items.{most_text, at_most, bound_text, next_bound};
 ghost use Rattle.calls_report.specs.Items.{further_bounds, chain_text, overdue_text};
@@ -47,6 +50,14 @@ fn put_consumed<W: Write>(out: &mut Output<'_, W>, call: &Call)
         Reply::Number(value) => out.put_number(value as u64),
         _ => out.put_number(0),
     }
+}
+
+/// Puts what a consume returned.
+fn put_returned_item<W: Write>(out: &mut Output<'_, W>, call: &Call)
+    ensures { Puts out.old out.new (returned_item call.now) }
+{
+    out.put(b"returned ");
+    put_consumed(out, call);
 }
 
 /// Puts a number, and a noun in the singular or the plural.
@@ -224,6 +235,45 @@ fn put_overtaken<W: Write>(
     put_of_all(out, site, put, consume, before, later, all);
 }
 
+/// Puts that items were put in that no consume called up to a position has returned.
+fn put_untaken<W: Write>(out: &mut Output<'_, W>, site: &Site<'_>, untaken: usize, by: usize)
+    ensures { Puts out.old out.new (untaken_text site.now untaken by) }
+{
+    put_some(out, untaken, b"item");
+    out.put(b" had been put in that no consume called by line ");
+    site.put_line(out, by);
+    out.put(b" has returned");
+}
+
+/// Puts that the item of a consume was not yet produced.
+fn put_unmade<W: Write>(out: &mut Output<'_, W>, site: &Site<'_>, earlier: &Call, consume: &Call)
+    ensures { Puts out.old out.new (unmade_text site.now earlier.now consume.now) }
+{
+    out.put(b", but by line ");
+    site.put_line(out, earlier.last);
+    out.put(b", before any ");
+    put_consumed(out, consume);
+    out.put(b" was produced, ");
+}
+
+/// Puts how many of the consumes are pending.
+fn put_only_pending<W: Write>(out: &mut Output<'_, W>, n: usize)
+    ensures { Puts out.old out.new (only_pending n) }
+{
+    out.put(b", with only ");
+    out.put_number(n as u64);
+    out.put(b" of these consumes pending");
+}
+
+/// Puts this, if any is.
+fn put_any_pending<W: Write>(out: &mut Output<'_, W>, pending: usize)
+    ensures { Puts out.old out.new (any_pending pending) }
+{
+    if pending != 0 {
+        put_only_pending(out, pending);
+    }
+}
+
 /// Puts that items were not taken, and one that was put in later was.
 fn put_passed<W: Write>(
     out: &mut Output<'_, W>,
@@ -235,15 +285,11 @@ fn put_passed<W: Write>(
 )
     ensures { Puts out.old out.new (passed_text site.now put.now consume.now left pending) }
 {
-    put_by_line(out, site, put.last);
-    put_some(out, left, b"item");
-    out.put(b" had been put in, and no ");
-    put_consumed(out, consume);
-    out.put(b" produced; line ");
-    site.put_line(out, consume.last);
-    out.put(b" returned that, and no consume called by then has returned the others, with ");
-    out.put_number(pending as u64);
-    out.put(b" of these pending");
+    site.put_earlier(out, consume.last);
+    put_returned_item(out, consume);
+    put_unmade(out, site, put, consume);
+    put_untaken(out, site, left, consume.last);
+    put_any_pending(out, pending);
 }
 
 /// Puts that the buffer was full, and one item more was put in.
@@ -258,10 +304,7 @@ fn put_squeezed<W: Write>(
     ensures { Puts out.old out.new (squeezed_text site.now full.now put.now left pending) }
 {
     put_by_line(out, site, full.last);
-    put_some(out, left, b"item");
-    out.put(b" had been put in that no consume called by line ");
-    site.put_line(out, put.last);
-    out.put(b" has returned");
+    put_untaken(out, site, left, put.last);
     put_pending(out, site, pending);
     out.put(b"; and ");
     put_produced(out, put);
@@ -371,5 +414,76 @@ pub(crate) fn put_items<W: Write>(out: &mut Output<'_, W>, site: &Site<'_>, faul
         } => put_squeezed(out, site, full, put, *left, *pending),
         Fault::Overdue { bounds } => put_overdue(out, site, bounds),
         Fault::Outrun { flow, steps, clash } => put_outrun(out, site, *flow, steps, clash),
+    }
+}
+
+/// Puts the name of the buffer.
+fn put_in_buffer<W: Write>(out: &mut Output<'_, W>, site: &Site<'_>)
+    ensures { Puts out.old out.new (in_buffer site.now) }
+{
+    out.put(b" in ");
+    site.speaker.put_store(out, site.object);
+}
+
+/// Puts that a consume returned an item, and this one was next.
+pub(crate) fn put_not_next<W: Write>(
+    out: &mut Output<'_, W>,
+    site: &Site<'_>,
+    call: &Call,
+    next: usize,
+)
+    ensures { Puts out.old out.new (not_next_text site.now call.now next) }
+{
+    put_returned_item(out, call);
+    out.put(b", but the next item");
+    put_in_buffer(out, site);
+    out.put(b" was ");
+    out.put_number(next as u64);
+}
+
+/// Puts that a consume returned an item, and none was left.
+pub(crate) fn put_no_item<W: Write>(out: &mut Output<'_, W>, site: &Site<'_>, call: &Call)
+    ensures { Puts out.old out.new (no_item_text site.now call.now) }
+{
+    put_returned_item(out, call);
+    out.put(b", but no item was left");
+    put_in_buffer(out, site);
+}
+
+/// Puts that a produce returned, and there was no room for its item.
+pub(crate) fn put_no_room<W: Write>(out: &mut Output<'_, W>, site: &Site<'_>, call: &Call)
+    ensures { Puts out.old out.new (no_room_text site.now call.now) }
+{
+    out.put(b"put ");
+    put_produced(out, call);
+    out.put(b" in, but no room was left");
+    put_in_buffer(out, site);
+}
+
+/// Puts that a produce gave up, and a consume had returned its item.
+fn put_gave_up_on<W: Write>(out: &mut Output<'_, W>, item: usize)
+    ensures { Puts out.old out.new (gave_up_on_text item) }
+{
+    out.put(b"gave up on ");
+    out.put_number(item as u64);
+    out.put(b", but a consume had returned it");
+}
+
+/// Puts that a consume gave up, and a produce had needed the room that it made.
+fn put_made_room<W: Write>(out: &mut Output<'_, W>, site: &Site<'_>)
+    ensures { Puts out.old out.new (made_room_text site.now) }
+{
+    out.put(b"gave up, but there was room");
+    put_in_buffer(out, site);
+    out.put(b" only if it took an item");
+}
+
+/// Puts that a call gave up, and must have taken effect.
+pub(crate) fn put_gave_up<W: Write>(out: &mut Output<'_, W>, site: &Site<'_>, op: Op)
+    ensures { Puts out.old out.new (gave_up_text site.now op) }
+{
+    match op {
+        Op::Produce(item) => put_gave_up_on(out, item),
+        _ => put_made_room(out, site),
     }
 }

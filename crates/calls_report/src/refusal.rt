@@ -4,13 +4,13 @@ ghost use Rattle.calls_tickets.specs.Faults.{number};
 ghost use Rattle.calls_text.specs.Spelling.{worker_word, event_word, group_word, numbers_of_value};
 ghost use Rattle.calls_text.specs.Spelling.{numbers_after_spaces};
 ghost use Rattle.ec_text.specs.Puts.{Puts};
-ghost use Rattle.calls_report.specs.Sites.{line_of};
+ghost use Rattle.calls_report.specs.Sites.{line_of, earlier_text};
 ghost use Rattle.calls_report.specs.Refusals.{advances_text, start_text, advances_word};
 ghost use Rattle.calls_report.specs.Refusals.{count_text, threshold, returned_text, below_text};
 ghost use Rattle.calls_report.specs.Refusals.{only_text, few_text, many_text, but_line};
 ghost use Rattle.calls_report.specs.Refusals.{before_text, between_text, had_text, since_text};
 ghost use Rattle.calls_report.specs.Refusals.{number_text, twice_text, had_number, turned_text};
-ghost use Rattle.calls_report.specs.Refusals.{earlier_text, tickets_word, tickets_text};
+ghost use Rattle.calls_report.specs.Refusals.{tickets_word, tickets_text};
 ghost use Rattle.calls_report.specs.Refusals.{drawn_text, ordinal, nth_text, units_text};
 ghost use Rattle.calls_report.specs.Refusals.{unit_text, stored_value, value_text, got_text};
 ghost use Rattle.calls_report.specs.Refusals.{by_store, no_put, nowhere_text, had_stored};
@@ -21,7 +21,7 @@ ghost use Rattle.calls_report.specs.Refusals.{certificate_text, raised_text, uno
 ghost use Rattle.calls_report.specs.Refusals.{no_unit_text};
 
 use crate::certificate::{Certificate, ticket_number};
-use crate::items::put_items;
+use crate::items::{put_gave_up, put_items, put_no_item, put_no_room, put_not_next};
 use crate::words::Speaker;
 use calls_core::{Call, Op, Reply};
 use ec_text::Output;
@@ -375,7 +375,7 @@ impl<'a> Site<'a> {
     }
 
     /// Puts the line of an earlier call.
-    fn put_earlier<W: Write>(&self, out: &mut Output<'_, W>, position: usize)
+    pub(crate) fn put_earlier<W: Write>(&self, out: &mut Output<'_, W>, position: usize)
         ensures { Puts out.old out.new (earlier_text self.now position) }
     {
         if position != self.at {
@@ -635,6 +635,10 @@ impl<'a> Site<'a> {
             Certificate::Alternate(a, b, c, d) => self.put_alternate(out, &a, &b, &c, &d),
             Certificate::NoneLeft(gets) => self.put_none_left(out, gets),
             Certificate::Items(fault) => put_items(out, self, fault),
+            Certificate::NotNext(call, next) => put_not_next(out, self, &call, next),
+            Certificate::NoItem(call) => put_no_item(out, self, &call),
+            Certificate::NoRoom(call) => put_no_room(out, self, &call),
+            Certificate::Needed(call) => put_gave_up(out, self, call.op),
         }
     }
 }

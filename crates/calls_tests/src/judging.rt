@@ -1,8 +1,9 @@
 //! Judges histories.
 use crate::reading::{History, Line, read_line};
 use crate::writing::{write_misuse, write_stop, write_verdict};
-use calls_core::Event;
+use calls_core::{Event, Kind};
 use calls_monitor::watch;
+use calls_spsc::{Monitor, ROOM_MAX};
 use calls_verdict::{decide, first_misuse, has_room};
 use std::alloc::Global;
 use std::io;
@@ -15,6 +16,8 @@ pub enum Mode {
     Decide,
     /// The position at which the monitor stops.
     Monitor,
+    /// The position at which the monitor of a buffer with one producer and one consumer stops.
+    Spsc,
 }
 
 impl Mode {
@@ -23,9 +26,21 @@ impl Mode {
         match word {
             "decide" => Some(Mode::Decide),
             "monitor" => Some(Mode::Monitor),
+            "spsc" => Some(Mode::Spsc),
             _ => None,
         }
     }
+}
+
+/// Returns the index of the event at which the monitor of a buffer stops.
+fn stop_of(room: usize, events: &[Event]) -> Option<usize> {
+    let mut monitor = Monitor::new(room.clamp(1, ROOM_MAX));
+    for (index, event) in events.iter().enumerate() {
+        if monitor.event(*event).is_err() {
+            return Some(index);
+        }
+    }
+    None
 }
 
 /// Judges a history, and writes the result.
@@ -49,9 +64,13 @@ fn judge<W: Write + Drop>(
             write_verdict(out, &verdict)
         }
         Mode::Monitor => {
-            let stop = watch(alloc, kinds, events)?;
+            let stop = watch(alloc, kinds, &[], events)?;
             write_stop(out, stop.map(|stop| stop.index))
         }
+        Mode::Spsc => match kinds {
+            [Kind::Buffer(room)] => write_stop(out, stop_of(*room, events)),
+            _ => writeln!(out, "no buffer"),
+        },
     }
 }
 

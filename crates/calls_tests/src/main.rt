@@ -1,6 +1,7 @@
 //! Reads histories of calls from standard input, and writes the verdicts of the libraries, for
-//! tests: `calls_tests decide` and `calls_tests monitor`. A history is the lines of its objects,
-//! a line `run`, its events, and a line `end`.
+//! tests: `calls_tests decide`, `calls_tests monitor` and, for a buffer with one producer and one
+//! consumer, `calls_tests spsc`. A history is the lines of its objects, a line `run`, its events,
+//! and a line `end`.
 #![tactic(auto)]
 
 mod judging;

@@ -37,7 +37,7 @@ until_past kinds (y ∷ late) past h =
     ∙ until_past kinds late past h.2)
 
 -- the events before x
-before_x : (kinds : List Kind) (late past : List Event) (x : Event)
+pub before_x : (kinds : List Kind) (late past : List Event) (x : Event)
     → IsHistory kinds (late ++ x ∷ past) → until x.at (late ++ x ∷ past) ≡ past
 before_x kinds [] past x h =
     ap (λ b. cond b (x ∷ past) (until x.at past)) (le-ltb x.at x.at (omega arith))

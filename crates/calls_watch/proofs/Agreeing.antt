@@ -1,6 +1,7 @@
 -- `watch` and `check` on one text.
 use Rattle.std.proofs.Common.{◌≡◌, ◌⊎◌, inl, inr, ℕ, ◌+◌, ◌<◌, ◌≤◌, true, false, List, [], ◌∷◌, ◌++◌, length}
-use Rattle.std.proofs.Common.{reverse, Ok, ap, sym, ◌∙◌, subst, arith}
+use Rattle.std.proofs.Common.{reverse, cond, slice_get, Some, refl, Ok, ap, sym, ◌∙◌, subst, arith, ◌^◌}
+use Rattle.std.proofs.lemmas.Bool.{cases_lt}
 use Rattle.std.proofs.lemmas.List.{reverse-append}
 use Rattle.ec_text.specs.Puts.{OutputModel}
 use Rattle.ec_heading.specs.HeadingModel.{HeadingModel}
@@ -11,13 +12,11 @@ use Rattle.calls_core.specs.declared.history.Kind.TheVariants.{Cell, Database, B
 use Rattle.calls_core.specs.declared.history.Event.{Event}
 use Rattle.calls_core.specs.declared.history.Placed.{Placed}
 use Rattle.calls_core.specs.Histories.{clock, part, IsHistory, IsHistoryOf}
-use Rattle.calls_core.specs.Linearizations.{IsAnsweredLinearization}
 use Rattle.calls_core.specs.Beginnings.{until}
 use Rattle.calls_core.specs.Completions.{IsLinearizable}
 use Rattle.calls_core.proofs.Beginnings.{history_earlier}
 use Rattle.calls_local.proofs.Parts.{a_part_is_a_history}
 use Rattle.calls_local.proofs.Wholes.{a_prefix_is_linearizable}
-use Rattle.calls_local.proofs.Responding.{answers_become_responses}
 use Rattle.calls_cells.specs.declared.outcome.Undecided as cells
 use Rattle.calls_cells.specs.Faults as undecided
 use Rattle.calls_verdict.specs.declared.verdict.Cause.{Cause}
@@ -25,11 +24,11 @@ use Rattle.calls_verdict.specs.declared.verdict.Cause.TheVariants.{Values, Unfou
 use Rattle.calls_verdict.specs.declared.verdict.Refusal.{Refusal}
 use Rattle.calls_verdict.specs.declared.verdict.Undecided.{Undecided}
 use Rattle.calls_verdict.specs.Faults.{ShowsUndecided, IsDecided}
-use Rattle.calls_verdict.specs.Verdicts.{AreDecided, AreSettled, IsNotDecided, IsFirstRefusal}
-use Rattle.calls_verdict.specs.Verdicts.{IsCleanBefore}
+use Rattle.calls_verdict.specs.Verdicts.{AreDecided, IsSettled, AreSettled, IsFirstRefusal}
 use Rattle.calls_verdict.proofs.Alternatives.{a_refusal_is_final}
-use Rattle.calls_verdict.proofs.OneFault.{until_past as until_end, ends_later, decided_are_settled}
-use Rattle.calls_verdict.proofs.OneFault.{the_first_fault_is_one}
+use Rattle.calls_verdict.proofs.OneFault.{before_x as until_event, decided_are_settled}
+use Rattle.calls_verdict.proofs.OneFault.{until_past, the_first_fault_is_one}
+use Rattle.calls_verdict.proofs.Clearing.{decided_settled}
 use Rattle.calls_verdict.proofs.Untils.{until_all}
 use Rattle.calls_monitor.specs.declared.monitor.Refused.{Refused as Report}
 use Rattle.calls_text.specs.Recordings.{RecordingModel, AreKinds, IsRecording}
@@ -44,16 +43,22 @@ use Rattle.calls_report.specs.Checks.{Outputs, JudgedHistory, AreJudged, IsJudge
 use Rattle.calls_report.specs.Checks.{IsUndecided, IsUnread, IsNoEnd, SaysUnread, SaysRefused, SaysOpen}
 use Rattle.calls_report.specs.Checks as checks
 use Rattle.calls_report.specs.declared.checking.TheConstants.{TEXT_MAX}
-use Rattle.calls_watch.specs.Watches.{AreWatched, CallsCells, IsGood, AreGood, IsUpTo, IsStopped}
+use Rattle.calls_watch.specs.Spsc.{is_spsc}
+use Rattle.calls_watch.specs.Watches.{no_object, CallNone, AreWatched, CallsCells, CallsUnwatched}
+use Rattle.calls_watch.specs.Watches.{HasCalls}
+use Rattle.calls_watch.specs.Watches.{IsGood, AreGood, IsUpTo, IsStopped}
 use Rattle.calls_watch.specs.Watches.{IsWatchedTo, Rejects, SaysTooLarge}
 use Rattle.calls_watch.specs.Watches as watches
 use Rattle.calls_watch.specs.Laws.{AreRead, CallsCellsIn, Agree, WatchAgreesWithCheck, BothRefuseOneEvent}
 use Rattle.calls_report.proofs.JudgingLemmas.{goes_past}
 use Rattle.calls_watch.proofs.LineLemmas.{one_part}
 use Rattle.calls_watch.proofs.TextLemmas.{ordered, good_by_order}
-use Rattle.calls_watch.proofs.Called.{whole_has_cells, lines_within}
+use Rattle.calls_watch.proofs.Rights.{AreAllowed}
+use Rattle.calls_watch.proofs.Settled.{was_read, spsc_settled}
+use Rattle.calls_watch.proofs.Called.{whole_has_calls, lines_within}
 use Rattle.calls_watch.proofs.SameKinds.{all_alike, linearizable_alike, AllAlike}
-use Rattle.calls_watch.proofs.Uncalled.{part_watched, uncalled, cell_begins}
+use Rattle.calls_watch.proofs.Watched.{calls_more}
+use Rattle.calls_watch.proofs.Uncalled.{part_calls_none, uncalled, cell_begins}
 use Rattle.calls_watch.proofs.Uncalled.{database_begins, buffer_begins, uncalled_order}
 
 -- HOW FAR BOTH HAVE READ
@@ -140,7 +145,7 @@ nothing_undecided (Buffer n) (Unfound m) shows =
     omega (arith, never)
 
 kind_decided : (kind : Kind) (past : List Event) (u : Cause) → IsHistoryOf kind past
-    → AreWatched past → ShowsUndecided kind past u → ⊥
+    → CallNone no_object past → ShowsUndecided kind past u → ⊥
 kind_decided (Eventcount n) past u h w shows = shows
 kind_decided Sequencer past u h w shows = shows
 kind_decided (Semaphores units) past u h w shows = shows
@@ -154,7 +159,7 @@ kind_decided (Buffer n) past u h w shows =
     nothing_undecided (Buffer n) u (subst (λ (es : List Event). ShowsUndecided (Buffer n) es u)
     (uncalled (Buffer n) (buffer_begins n) past h w) shows)
 
-is_decided : (kind : Kind) (past : List Event) → IsHistoryOf kind past → AreWatched past
+is_decided : (kind : Kind) (past : List Event) → IsHistoryOf kind past → CallNone no_object past
     → IsDecided kind past
 is_decided (Eventcount n) past h w = λ u shows. kind_decided (Eventcount n) past u h w shows
 is_decided Sequencer past h w = λ u shows. kind_decided Sequencer past u h w shows
@@ -164,11 +169,34 @@ is_decided Cell past h w = λ u shows. kind_decided Cell past u h w shows
 is_decided (Database n) past h w = λ u shows. kind_decided (Database n) past u h w shows
 is_decided (Buffer n) past h w = uncalled_order (Buffer n) (buffer_begins n) past h w
 
-are_decided : (ks : List Kind) (past : List Event) → IsHistory ks past → AreWatched past
+are_decided : (ks : List Kind) (past : List Event) → IsHistory ks past → CallNone no_object past
     → AreDecided ks past
 are_decided ks past h w = λ k kind is.
     is_decided kind (part k past) ((a_part_is_a_history ks k past h).4 kind is)
-    (part_watched k past w)
+    (part_calls_none no_object k refl past w)
+
+-- what is judged event by event up to x is settled there
+module _ (h : HeadingModel) (from : List (ℕ × ℕ)) (ks : List Kind) (are : AreKinds h from ks)
+    (late past : List Event) (x : Event) (history : IsHistory ks (late ++ x ∷ past)) where
+  plain_settled : (k : ℕ) (kind : Kind) → slice_get ks k ≡ Some kind → is_spsc h k ≡ false
+      → AreWatched h (x ∷ past) → IsSettled kind (late ++ x ∷ past) k (x.at + 1)
+  plain_settled k kind at plain watched =
+      decided_settled kind (late ++ x ∷ past) k (x.at + 1)
+      (subst (λ (es : List Event). IsDecided kind (part k es))
+      (sym (until_past ks late (x ∷ past) history))
+      (is_decided kind (part k (x ∷ past))
+      ((a_part_is_a_history ks k (x ∷ past) (history_earlier ks late (x ∷ past) history)).4 kind at)
+      (part_calls_none (is_spsc h) k plain (x ∷ past) watched)))
+
+  all_settled : AreAllowed h (late ++ x ∷ past) → clock (late ++ x ∷ past) + 1 < 2 ^ 64
+      → AreWatched h (x ∷ past) → AreSettled ks (late ++ x ∷ past) (x.at + 1)
+  all_settled allowed room watched = λ k kind at.
+      elim (is_spsc h k) as (λ b. is_spsc h k ≡ b
+      → IsSettled kind (late ++ x ∷ past) k (x.at + 1)) [
+        | true ↦ λ is. spsc_settled h from ks are (late ++ x ∷ past) history allowed room k is
+            (x.at + 1) kind at
+        | false ↦ λ plain. plain_settled k kind at plain watched
+      ] refl
 
 -- a history that is not decided calls a cell, a database or a buffer
 open_calls : (r : RecordingModel) (u : Undecided) → IsUndecided r u → CallsCells r
@@ -177,7 +205,7 @@ open_calls r u open_one = λ watched.
     let past : List Event = reverse r.events in
     kind_decided shown.kind (part u.object past) u.cause
     ((a_part_is_a_history open_one.0 u.object past open_one.1.history).4 shown.kind shown.is)
-    (part_watched u.object past watched) shown.shows)
+    (part_calls_none no_object u.object refl past watched) shown.shows)
 
 -- HISTORIES THAT ARE REJECTED
 
@@ -231,34 +259,49 @@ module _ (n : ℕ) (ps : List (List ℕ)) (m : ℕ) (r : RecordingModel) (x : Ev
   none_with_x : IsLinearizable ks (x ∷ stop.past) → ⊥
   none_with_x l = stop.refused.none (linearizable_alike ks stop.kinds back (x ∷ stop.past) l)
 
-  settled : AreSettled ks (more.late ++ x ∷ stop.past) (x.at + 1)
-  settled = decided_are_settled ks more.late stop.past x history
-      (are_decided ks (x ∷ stop.past) begun (stop.watched, stop.up_to.watched))
-
   not_whole : IsLinearizable ks (reverse o.recorded.events) → ⊥
   not_whole l =
       none_with_x (a_prefix_is_linearizable ks more.late (x ∷ stop.past) history
       (subst (IsLinearizable ks) more.are l))
 
-  same_event : (f : Refusal)
-      → IsFirstRefusal ks (reverse o.recorded.events) f.at f.object f.fault → f.at ≡ x.at
-  same_event f first =
-      the_first_fault_is_one ks more.late stop.past x f.at f.object f.fault history settled before_x
-      none_with_x
-      (subst (λ (es : List Event). IsFirstRefusal ks es f.at f.object f.fault) more.are first)
+  abbrev IsFirst : Refusal → Type 0
+  IsFirst f = IsFirstRefusal ks (more.late ++ x ∷ stop.past) f.at f.object f.fault
 
-  not_open : (u : Undecided) → IsNotDecided ks (reverse o.recorded.events) u → ⊥
-  not_open u open_one =
-      let past : List Event = x ∷ stop.past in
-      let whole : List Event = more.late ++ past in
-      let clean : IsCleanBefore ks whole (clock whole) =
-      subst (λ (es : List Event). IsCleanBefore ks es (clock es)) more.are open_one.rest in
-      let up_to : until (clock past) whole ≡ past = until_end ks more.late past history in
-      let order = (clean (clock past) (ends_later ks more.late past history)).1 settled in
-      let own : IsAnsweredLinearization ks past order.0 =
-      subst (λ (es : List Event). IsAnsweredLinearization ks es order.0) up_to order.1 in
-      let late = answers_become_responses ks past order.0 begun own in
-      none_with_x (late.0, late.1)
+  is_first : (f : Refusal) → IsFirstRefusal ks (reverse o.recorded.events) f.at f.object f.fault
+      → IsFirst f
+  is_first f first =
+      subst (λ (es : List Event). IsFirstRefusal ks es f.at f.object f.fault) more.are first
+
+  not_later : (f : Refusal) → IsFirst f → x.at ≤ f.at
+  not_later f first =
+      elim (cases_lt f.at x.at) [
+        | inl early ↦ absurd (a_refusal_is_final ks (more.late ++ x ∷ stop.past) f.at f.object f.fault
+            x.at history first early
+            (subst (IsLinearizable ks) (sym (until_event ks more.late stop.past x history)) before_x))
+        | inr ge ↦ ge
+      ]
+
+  same_event : (f : Refusal) → IsFirst f → AreSettled ks (more.late ++ x ∷ stop.past) (x.at + 1)
+      → x.at ≡ f.at
+  same_event f first settled =
+      sym (the_first_fault_is_one ks more.late stop.past x f.at f.object f.fault history settled
+      before_x none_with_x first)
+
+  same_uncalled : (f : Refusal) → IsFirst f → CallNone no_object (x ∷ stop.past) → x.at ≡ f.at
+  same_uncalled f first none =
+      same_event f first (decided_are_settled ks more.late stop.past x history
+      (are_decided ks (x ∷ stop.past) begun none))
+
+  same_short : (f : Refusal) → IsFirst f → length o.recorded.events + 1 < 2 ^ 64
+      → AreAllowed o.recorded.heading (reverse o.recorded.events) → x.at ≡ f.at
+  same_short f first short allowed =
+      let same : clock (reverse o.recorded.events) ≡ clock (more.late ++ x ∷ stop.past) =
+      ap clock more.are in
+      let all : AreAllowed r.heading (more.late ++ x ∷ stop.past) =
+      subst (λ (h : HeadingModel). AreAllowed h (more.late ++ x ∷ stop.past)) (sym more.heading)
+      (subst (AreAllowed o.recorded.heading) more.are allowed) in
+      same_event f first (all_settled r.heading r.from ks objects more.late stop.past x history all
+      (omega (arith, short, same, recording.positions)) (stop.watched, stop.up_to.watched))
 
 stopped_no_order : (n : ℕ) (ps : List (List ℕ)) (m : ℕ) (r : RecordingModel) (x : Event)
     (report : Report) → IsStopped n ps m r x report → (j : JudgedHistory)
@@ -285,7 +328,20 @@ open_in text reads m qs o u are is open_one = record {
   number = m;
   rest = qs;
   are = are;
-  cells = whole_has_cells text reads m qs o are is (open_calls o.recorded u open_one);
+  cells = whole_has_calls CallsCells text reads m qs o are is (open_calls o.recorded u open_one);
+}
+
+all_calls : (m : ℕ) (qs : List (List ℕ)) → HasCalls CallsUnwatched m qs → HasCalls CallsCells m qs
+all_calls m qs c = record {
+  stage = c.stage;
+  number = c.number;
+  next = c.next;
+  left = c.left;
+  reached = c.reached;
+  recorded = c.recorded;
+  is = c.is;
+  calls = λ none. c.calls
+      (calls_more (is_spsc c.recorded.heading) (reverse c.recorded.events) none);
 }
 
 -- one that is too large
@@ -293,7 +349,7 @@ large_in : (text : List ℕ) (reads : List OneRead) (m : ℕ) (qs : List (List �
     (old new : OutputModel) → AreRead 1 (lines_of_text text) reads m qs
     → SaysTooLarge m qs old new → CallsCellsIn text × (TEXT_MAX < length text)
 large_in text reads m qs old new are large = (
-  record { reads = reads; number = m; rest = qs; are = are; cells = large.0 },
+  record { reads = reads; number = m; rest = qs; are = are; cells = all_calls m qs large.0 },
   (let within : length (lines_text large.0.reached.lines) ≤ length text =
       lines_within text reads m qs large.0.stage large.0.number large.0.next large.0.left are
       large.0.reached in
@@ -435,22 +491,36 @@ watch_agrees_with_check = λ text watched checked old new judged before after w 
     (meets 1 (lines_of_text text) w.reads w.number w.rest judged c.number c.rest w.good c.judged_are)
     w.ends c.ends
 
-one_event : (n : ℕ) (ps : List (List ℕ)) (m : ℕ) (r : RecordingModel) (x : Event) (report : Report)
-    (k : ℕ) (qs : List (List ℕ)) (read : OneRead) (refusal : Refusal) → Meets n ps k qs
-    → IsStopped n ps m r x report → parse_from k Opening qs ≡ Ok read
-    → checks.IsRefused read.recorded refusal → (n ≡ k) × (x.at ≡ refusal.at)
-one_event n ps m r x report k qs read refusal (inl (e, f)) stop is refused = (
-  e,
-  sym (same_event n ps m r x report stop read (moved n k ps qs read e f is) refused.0 refused.1
-      refusal refused.2),
-)
-one_event n ps m r x report k qs read refusal (inr (inl j)) stop is refused =
+one_event : (text : List ℕ) (reads : List OneRead) (n : ℕ) (ps : List (List ℕ)) (m : ℕ)
+    (r : RecordingModel) (x : Event) (report : Report) (k : ℕ) (qs : List (List ℕ))
+    (read : OneRead) (refusal : Refusal) → AreRead 1 (lines_of_text text) reads n ps
+    → Meets n ps k qs → IsStopped n ps m r x report → parse_from k Opening qs ≡ Ok read
+    → checks.IsRefused read.recorded refusal
+    → (n ≡ k) × (x.at ≤ refusal.at)
+    × (CallNone no_object (reverse r.events) ⊎ (length text < 2 ^ 64) → x.at ≡ refusal.at)
+one_event text reads n ps m r x report k qs read refusal are (inl (e, f)) stop is refused =
+    (let there = moved n k ps qs read e f is in
+    let ks = refused.0 in
+    let recording = refused.1 in
+    let first = is_first n ps m r x report stop read there ks recording refusal refused.2 in
+    let whole = was_read text reads n ps read are there in (
+      e,
+      not_later n ps m r x report stop read there ks recording refusal first,
+      λ either. elim either [
+        | inl none ↦ same_uncalled n ps m r x report stop read there ks recording refusal first
+            (subst (CallNone no_object) stop.up_to.last none)
+        | inr short ↦ same_short n ps m r x report stop read there ks recording refusal first
+            (omega (arith, short, whole.0)) whole.1
+      ],
+    ))
+one_event text reads n ps m r x report k qs read refusal are (inr (inl j)) stop is refused =
     absurd (stopped_no_order n ps m r x report stop j.0 j.1 j.2)
-one_event n ps m r x report k qs read refusal (inr (inr g)) stop is refused =
+one_event text reads n ps m r x report k qs read refusal are (inr (inr g)) stop is refused =
     absurd (good_not_refused read.recorded (good_read k qs g.0 read g.1 is g.2) refusal refused)
 
 pub both_refuse_one_event : BothRefuseOneEvent
 both_refuse_one_event =
     λ text reads n ps m r x report judged k qs read refusal good stop judged_are is refused.
-    one_event n ps m r x report k qs read refusal
+    one_event text reads n ps m r x report k qs read refusal
+    (good_are_read 1 (lines_of_text text) reads n ps good)
     (meets 1 (lines_of_text text) reads n ps judged k qs good judged_are) stop is refused

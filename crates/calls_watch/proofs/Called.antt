@@ -4,20 +4,21 @@ use Rattle.std.proofs.Common.{Ok, refl, ap, sym, ◌∙◌, subst, arith, append
 use Rattle.std.specs.List.{AllByRecursion, join_with_byte}
 use Rattle.std.proofs.lemmas.List.Concat.{flat_map-append}
 use Rattle.ec_heading.specs.Spelling.{lines_text, ended_line}
+use Rattle.calls_text.specs.Recordings.{RecordingModel}
 use Rattle.calls_text.specs.Reading.{Stage, Opening, Ended}
 use Rattle.calls_text.specs.Outcomes.{OneRead, parse_from, lines_of_text}
 use Rattle.calls_text.specs.Following.{IsReached}
 use Rattle.calls_text.proofs.TextParts.{IsPart, parts_line, parts_joined, is_read, IsRead, has_first, HasFirst}
-use Rattle.calls_watch.specs.Watches.{HasCells, CallsCells}
+use Rattle.calls_watch.specs.Watches.{HasCalls}
 use Rattle.calls_watch.specs.Laws.{AreRead}
 
 -- WHAT IS LEFT OF A TEXT
 
 -- these parts are those of bytes, which are no more than so many
-record AreLeft (qs : List (List ℕ)) (most : ℕ) : Type 0 where
-  bytes : List ℕ
-  are : qs ≡ lines_of_text bytes
-  within : length bytes ≤ most
+pub record AreLeft (qs : List (List ℕ)) (most : ℕ) : Type 0 where
+  pub bytes : List ℕ
+  pub are : qs ≡ lines_of_text bytes
+  pub within : length bytes ≤ most
 
 within_rest : (lines rest bytes : List ℕ) (most : ℕ) → bytes ≡ lines ++ rest → length bytes ≤ most
     → length rest ≤ most
@@ -42,7 +43,7 @@ left_of n ps [] m qs most left are = subst (λ (k : List (List ℕ)). AreLeft k 
 left_of n ps (r ∷ reads) m qs most left are =
     left_of r.number r.rest reads m qs most (left_of_one n ps most r left are.0) are.1
 
-left_in : (text : List ℕ) (reads : List OneRead) (m : ℕ) (qs : List (List ℕ))
+pub left_in : (text : List ℕ) (reads : List OneRead) (m : ℕ) (qs : List (List ℕ))
     → AreRead 1 (lines_of_text text) reads m qs → AreLeft qs (length text)
 left_in text reads m qs are =
     left_of 1 (lines_of_text text) reads m qs (length text)
@@ -59,10 +60,10 @@ parts_apart (line ∷ lines) more each =
     ∙ parts_line line (lines_text lines ++ more) each.0
     ∙ ap (λ (ls : List (List ℕ)). line ∷ ls) (parts_apart lines more each.1)
 
-pub whole_has_cells : (text : List ℕ) (reads : List OneRead) (m : ℕ) (qs : List (List ℕ))
+pub whole_has_calls : (These : RecordingModel → Type 0) (text : List ℕ) (reads : List OneRead) (m : ℕ) (qs : List (List ℕ))
     (o : OneRead) → AreRead 1 (lines_of_text text) reads m qs → parse_from m Opening qs ≡ Ok o
-    → CallsCells o.recorded → HasCells m qs
-whole_has_cells text reads m qs o are is cells =
+    → These o.recorded → HasCalls These m qs
+whole_has_calls These text reads m qs o are is calls =
     let left : AreLeft qs (length text) = left_in text reads m qs are in
     let read : IsRead left.bytes m Opening o =
     is_read left.bytes m Opening o (ap (parse_from m Opening) (sym left.are) ∙ is) in
@@ -81,7 +82,7 @@ whole_has_cells text reads m qs o are is cells =
       };
       recorded = o.recorded;
       is = refl;
-      cells = cells;
+      calls = calls;
     }
 
 -- HOW LONG LINES ARE

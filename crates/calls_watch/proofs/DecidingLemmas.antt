@@ -16,7 +16,8 @@ use Rattle.calls_watch.specs.declared.stop.Stop.TheVariants as stops
 use Rattle.calls_watch.specs.declared.watcher.Watcher.{Watcher}
 use Rattle.calls_watch.specs.declared.whole.DecidedHistory.{DecidedHistory}
 use Rattle.calls_watch.specs.kept.Texts.{ReturnsText, DecidesText, outcome_of}
-use Rattle.calls_watch.specs.kept.Watching.{Decides, DecidesUnjudged, IsLeft, IsJudged, JudgedBy}
+use Rattle.calls_watch.specs.kept.Watching.{Decides, DecidesUnjudged, NeedsText, IsJudged, JudgedBy}
+use Rattle.calls_watch.specs.kept.Watching.{IsPassedOver}
 use Rattle.calls_watch.specs.kept.Watching.{IsNext, IsBegunAgain, EndsHistory}
 
 -- THE TEXT
@@ -48,12 +49,11 @@ no_text TooLong stops.NotDecided returned = absurd returned
 no_text TooLong (stops.Unread fault) returned = absurd returned
 no_text TooLong (stops.Refused x report) returned = absurd returned
 
-pub left_stop : (k : Kept) (new : Option Monitor) (stop : Stop) → ReturnsText k (Err stop)
-    → IsLeft k new (Err stop)
-left_stop k new stop returned =
+pub needs_stop : (k : Kept) (stop : Stop) → ReturnsText k (Err stop) → NeedsText k (Err stop)
+needs_stop k stop returned =
     elim (no_text k stop returned) [
-      | inl e ↦ subst (λ (s : Stop). IsLeft k new (Err s)) (sym e) tt
-      | inr p ↦ subst (λ (s : Stop). IsLeft k new (Err s)) (sym p.0) p.1
+      | inl e ↦ subst (λ (s : Stop). NeedsText k (Err s)) (sym e) tt
+      | inr p ↦ subst (λ (s : Stop). NeedsText k (Err s)) (sym p.0) p.1
     ]
 
 pub decides_stop : (old new : Watcher) (stop : Stop) → ReturnsText old.kept (Err stop)
@@ -154,4 +154,10 @@ pub judged_by : (o : Option Monitor) (k : Kept) (x : Event) (m : Monitor) (new :
     (result : Result (Unit {0}) Stop) → o ≡ Some m → IsJudged m x new result
     → JudgedBy o k x new result
 judged_by o k x m new result is judged =
-    subst (λ (p : Option Monitor). JudgedBy p k x new result) (sym is) judged
+    subst (λ (p : Option Monitor). JudgedBy p k x new result) (sym is) (inl judged)
+
+pub passed_by : (o : Option Monitor) (k : Kept) (x : Event) (m : Monitor) (new : Option Monitor)
+    (result : Result (Unit {0}) Stop) → o ≡ Some m → IsPassedOver m x → new ≡ None
+    → NeedsText k result → JudgedBy o k x new result
+passed_by o k x m new result is passed none needs =
+    subst (λ (p : Option Monitor). JudgedBy p k x new result) (sym is) (inr (passed, (needs, none)))

@@ -254,7 +254,7 @@ module _ (ps : List (List ℕ)) (w : Watcher) where
         s.stops.3,
         says,
       ),
-      s.stops.0.cells,
+      s.stops.0.unwatched,
     )));
   }
   refused_at_end Memory old new s says = record {

@@ -1,5 +1,9 @@
 mod Histories
 mod Uncalled
+mod Watched
+mod Rights
+mod Pairs
+mod Listed
 mod TextLemmas
 mod DecidingLemmas
 mod LineLemmas
@@ -7,4 +11,6 @@ mod PieceLemmas
 mod EndLemmas
 mod SameKinds
 mod Called
+mod Simple
+mod Settled
 pub mod Agreeing

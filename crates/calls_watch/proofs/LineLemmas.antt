@@ -6,14 +6,16 @@ use Rattle.std.proofs.lemmas.List.{reverse-append}
 use Rattle.ec_heading.specs.HeadingModel.{HeadingModel}
 use Rattle.calls_core.specs.declared.history.Kind.{Kind}
 use Rattle.calls_core.specs.declared.history.Event.{Event}
-use Rattle.calls_core.specs.Histories.{IsHistory, clock, pending_calls}
+use Rattle.calls_core.specs.Histories.{IsHistory, clock, pending_calls, part}
 use Rattle.calls_core.specs.Completions.{IsLinearizable}
 use Rattle.calls_verdict.specs.declared.verdict.Verdict.{Verdict}
 use Rattle.calls_verdict.specs.declared.verdict.Verdict.TheVariants as verdicts
 use Rattle.calls_monitor.specs.declared.monitor.Monitor.{Monitor}
 use Rattle.calls_monitor.specs.declared.monitor.Refused.{Refused as Report}
 use Rattle.calls_monitor.specs.declared.monitor.Rejection.TheVariants as rejections
-use Rattle.calls_monitor.specs.Monitors.{Judges}
+use Rattle.calls_monitor.specs.Watched.{AreSpsc}
+use Rattle.calls_monitor.specs.Monitors.{Judges, IsRefused}
+use Rattle.calls_spsc.specs.Flows.{IsSpsc}
 use Rattle.calls_monitor.specs.kept.Watching as monitors
 use Rattle.calls_text.specs.declared.fault.TextFault.{TextFault}
 use Rattle.calls_text.specs.declared.fault.TextFault.TheVariants as faults
@@ -38,16 +40,19 @@ use Rattle.calls_watch.specs.declared.stop.Stop.TheVariants as stops
 use Rattle.calls_watch.specs.declared.watcher.Watcher.{Watcher}
 use Rattle.calls_watch.specs.Loads.{IsLoad, calls_of, others_of, others_at}
 use Rattle.calls_watch.specs.Loads.{invocation_count}
-use Rattle.calls_watch.specs.Watches.{IsGood, AreGood, IsUpTo, IsReadAt, CallsCells}
-use Rattle.calls_watch.specs.Watches.{invokes_cells, AreWatched}
+use Rattle.calls_watch.specs.Spsc.{AreListed}
+use Rattle.calls_watch.specs.Watches.{IsGood, AreGood, IsUpTo, IsReadAt, AreWatched, CallsUnwatched}
 use Rattle.calls_watch.specs.kept.Texts.{HoldsText, DecidesText, HasVerdict, outcome_of}
 use Rattle.calls_watch.specs.kept.Watching.{IsMonitoring, IsReading, IsMonitored, IsWatching, StopsAt, Stops, StateAfterLine}
-use Rattle.calls_watch.specs.kept.Watching.{IsOver, IsOpened, IsLoadAfter, Begins, LoadGrows, JudgedBy, monitor_at}
-use Rattle.calls_watch.specs.kept.Watching.{KeepsText, IsTaken, IsEventTaken, IsNext, IsBegunAgain, DecidesAs, Decides}
+use Rattle.calls_watch.specs.kept.Watching.{IsOver, IsOpened, IsLoadAfter, Begins, LoadGrows, JudgedBy, IsJudged}
+use Rattle.calls_watch.specs.kept.Watching.{KeepsText, IsTaken, IsNext, IsBegunAgain, DecidesAs, Decides}
+use Rattle.calls_watch.specs.kept.Watching.{NeedsText, IsPassedOver}
 use Rattle.calls_watch.specs.kept.Watching.{IsDecided, EndsHistory, GoesOnBy, MayEnd, GoesOnAt}
 use Rattle.calls_watch.proofs.Histories.{good_more, calls_more, others_more}
 use Rattle.calls_watch.proofs.TextLemmas.{leads_more, kept_if, IsSame, read_again, good_by_order}
-use Rattle.calls_watch.proofs.Uncalled.{all_linearizable, none_linearizable}
+use Rattle.calls_watch.proofs.Uncalled.{none_linearizable}
+use Rattle.calls_watch.proofs.Watched.{unwatched_called, refused_watched, taken_watched}
+use Rattle.calls_watch.proofs.Pairs.{spsc_by_rights}
 
 -- MONITORS
 
@@ -156,9 +161,9 @@ module _ (ps qs : List (List ℕ)) (q line : List ℕ) (old mid new : Watcher)
 
   -- the lines so far are too many
   too_large : (s : Stage) (r : RecordingModel)
-      → step (stage_with_events w.events old.follower) line ≡ Ok s → IsReadAt s r → CallsCells r
+      → step (stage_with_events w.events old.follower) line ≡ Ok s → IsReadAt s r → CallsUnwatched r
       → mid.kept ≡ TooLong → Stops stops.TooLarge ps new
-  too_large s r steps is cells long = stopped stops.TooLarge (
+  too_large s r steps is calls long = stopped stops.TooLarge (
     record {
       stage = s;
       number = old.number + 1;
@@ -167,7 +172,7 @@ module _ (ps qs : List (List ℕ)) (q line : List ℕ) (old mid new : Watcher)
       reached = steps_on s steps;
       recorded = r;
       is = is;
-      cells = cells;
+      calls = calls;
     },
     subst (HoldsText (w.reached.lines ++ line ∷ [])) long kept,
   )
@@ -197,6 +202,8 @@ module _ (ps qs : List (List ℕ)) (q line : List ℕ) (old mid new : Watcher)
       (subst (IsMonitored (Running h.begun) []) (sym b.1) (record {
         kinds = o.kinds;
         are = o.are;
+        spsc = o.spsc;
+        listed = o.listed;
         watched = tt;
         linearizable = none_linearizable o.kinds;
         history = tt;
@@ -280,129 +287,170 @@ module _ (ps qs : List (List ℕ)) (q line : List ℕ) (old mid new : Watcher)
         (subst (HoldsText (w.reached.lines ++ line ∷ [])) (sym keeps.kept) kept)
 
     -- an event that is only read
-    read_so : (AreWatched (x ∷ past) → ⊥) → KeepsText mid new → LoadGrows mid x new
+    read_so : (AreWatched e.after.heading (x ∷ past) → ⊥) → KeepsText mid new → LoadGrows mid x new
         → new.monitor ≡ None → IsWatching ps (q ∷ qs) new
-    read_so cells keeps grows none =
+    read_so unwatched keeps grows none =
         taken_so keeps grows
         (subst (IsMonitored (Running e.after) (w.events ++ x ∷ [])) (sym none) (record {
           kinds = kinds;
           are = are_now;
-          cells = λ watched. cells (subst AreWatched now_past watched);
+          unwatched = λ watched.
+              unwatched (subst (AreWatched e.after.heading) now_past watched);
           history = history_more;
           positions = positions_more;
         }))
 
-    event_too_large : (AreWatched (x ∷ past) → ⊥) → mid.kept ≡ TooLong
+    event_too_large : (AreWatched e.after.heading (x ∷ past) → ⊥) → mid.kept ≡ TooLong
         → Stops stops.TooLarge ps new
-    event_too_large cells long =
+    event_too_large unwatched long =
         let are_events : reverse e.after.events ≡ x ∷ past = ap reverse e.events_are ∙ now_past in
         too_large (Running e.after) e.after e.steps refl
-        (λ watched. cells (subst AreWatched are_events watched)) long
+        (λ watched. unwatched (subst (AreWatched e.after.heading) are_events watched)) long
 
-    left_goes : (AreWatched (x ∷ past) → ⊥) → (result : Result (Unit {0}) Stop)
+    left_stops : (AreWatched e.after.heading (x ∷ past) → ⊥) → (stop : Stop)
+        → NeedsText mid.kept (Err stop) → Stops stop ps new
+    left_stops unwatched stops.TooLarge needs = event_too_large unwatched needs
+    left_stops unwatched stops.Memory needs = stopped stops.Memory tt
+    left_stops unwatched stops.RefusedAtEnd needs = absurd needs
+    left_stops unwatched stops.NotDecided needs = absurd needs
+    left_stops unwatched (stops.Unread fault) needs = absurd needs
+    left_stops unwatched (stops.Refused y report) needs = absurd needs
+
+    left_goes : (AreWatched e.after.heading (x ∷ past) → ⊥) → (result : Result (Unit {0}) Stop)
         → IsTaken None x mid new result → StateAfterLine result ps (q ∷ qs) new
-    left_goes cells (Ok u) t = read_so cells t.2 t.1 t.0
-    left_goes cells (Err stops.TooLarge) (inl t) = event_too_large cells t.0
-    left_goes cells (Err stops.Memory) (inl t) = stopped stops.Memory tt
-    left_goes cells (Err stops.RefusedAtEnd) (inl t) = absurd t.0
-    left_goes cells (Err stops.NotDecided) (inl t) = absurd t.0
-    left_goes cells (Err (stops.Unread fault)) (inl t) = absurd t.0
-    left_goes cells (Err (stops.Refused y report)) (inl t) = absurd t.0
-    left_goes cells (Err stop) (inr memory) = memory_goes stop memory
+    left_goes unwatched (Ok u) t = read_so unwatched t.2 t.1 t.0.1
+    left_goes unwatched (Err stop) (inl t) = left_stops unwatched stop t.0.0
+    left_goes unwatched (Err stop) (inr memory) = memory_goes stop memory
 
   module _ (x : Event) (e : IsEvent line w.events x old.follower.stage mid.follower.stage)
-      (m : Monitor) (is : IsMonitoring e.before w.events m) (plain : invokes_cells x.action ≡ false)
-    where
-      up_to_now : new.number ≡ mid.number
-          → IsUpTo w.start w.begun new.number e.after is.kinds (reverse w.events) x
-      up_to_now count = record {
-        next = q;
-        left = qs;
-        reached = subst (λ (k : ℕ). IsReached w.start w.begun (Running e.after) k (q ∷ qs))
-            (sym (count ∙ number)) (steps_on (Running e.after) e.steps);
-        recording = record {
-          objects = are_now x e is.kinds is.are is.history is.positions;
-          history = subst (λ (es : List Event). IsHistory is.kinds (reverse es))
-              (sym e.events_are) (history_more x e is.kinds is.are is.history is.positions);
-          positions = subst (λ (es : List Event). clock (reverse es) ≡ length es)
-              (sym e.events_are) (positions_more x e is.kinds is.are is.history is.positions);
-        };
-        last = ap reverse e.events_are ∙ now_past x e is.kinds is.are is.history is.positions;
-        watched = is.watched;
-        before = is.linearizable;
-      }
+      (m : Monitor) (is : IsMonitoring e.before w.events m) where
+    abbrev before : List Event
+    before = reverse w.events
 
-      event_stops : (report : Report) (n : Monitor)
-          → Judges m n x (Err (rejections.Refused report)) → KeepsText mid new
-          → Stops (stops.Refused x report) ps new
-      event_stops report n judges keeps = stopped (stops.Refused x report) (
-        e.after,
-        w.events ++ x ∷ [],
-        ap (λ (f : Follower). stage_with_events (w.events ++ x ∷ []) f) keeps.follower ∙ e.is,
-        record {
-          kinds = is.kinds;
-          past = reverse w.events;
-          up_to = up_to_now keeps.number;
-          watched = plain;
-          refused = judges is.kinds (reverse w.events)
-              (history_now x e is.kinds is.are is.history is.positions) is.watches;
-        },
-      )
+    now : IsHistory is.kinds (x ∷ before)
+    now = history_now x e is.kinds is.are is.history is.positions
 
-      event_taken : (n : Monitor) → new.monitor ≡ Some n → Judges m n x (Ok tt)
-          → LoadGrows mid x new → KeepsText mid new → IsWatching ps (q ∷ qs) new
-      event_taken n at judges grows keeps =
-          let past : List Event = reverse w.events in
-          let now : IsHistory is.kinds (x ∷ past) =
-          history_now x e is.kinds is.are is.history is.positions in
-          let same : reverse (w.events ++ x ∷ []) ≡ x ∷ past =
-          now_past x e is.kinds is.are is.history is.positions in
-          let verdict = judges is.kinds past now is.watches in
-          let watched : AreWatched (x ∷ past) = (plain, is.watched) in
-          let fine = all_linearizable is.kinds (x ∷ past) now watched verdict.0 in
-          taken_so x e is.kinds is.are is.history is.positions keeps grows
-          (subst (IsMonitored (Running e.after) (w.events ++ x ∷ [])) (sym at) (record {
+    now_are : reverse (w.events ++ x ∷ []) ≡ x ∷ before
+    now_are = now_past x e is.kinds is.are is.history is.positions
+
+    are_events : reverse e.after.events ≡ x ∷ before
+    are_events = ap reverse e.events_are ∙ now_are
+
+    listed_now : AreListed e.after.heading is.spsc
+    listed_now = subst (λ (h : HeadingModel). AreListed h is.spsc) e.heading is.listed
+
+    watched_before : AreWatched e.after.heading before
+    watched_before = subst (λ (h : HeadingModel). AreWatched h before) e.heading is.watched
+
+    -- each listed buffer has one producer and one consumer
+    one_each : AreSpsc is.spsc (x ∷ before)
+    one_each = λ k listed. subst (λ (es : List Event). IsSpsc (part k es)) are_events
+        (spsc_by_rights w.start w.begun e.after (old.number + 1) (q ∷ qs)
+        (steps_on (Running e.after) e.steps) is.kinds
+        (subst (IsHistory is.kinds) (sym are_events) now) k (sym (listed_now k) ∙ listed))
+
+    up_to_now : new.number ≡ mid.number
+        → IsUpTo w.start w.begun new.number e.after is.kinds before x
+    up_to_now count = record {
+      next = q;
+      left = qs;
+      reached = subst (λ (k : ℕ). IsReached w.start w.begun (Running e.after) k (q ∷ qs))
+          (sym (count ∙ number)) (steps_on (Running e.after) e.steps);
+      recording = record {
+        objects = are_now x e is.kinds is.are is.history is.positions;
+        history = subst (λ (es : List Event). IsHistory is.kinds (reverse es))
+            (sym e.events_are) (history_more x e is.kinds is.are is.history is.positions);
+        positions = subst (λ (es : List Event). clock (reverse es) ≡ length es)
+            (sym e.events_are) (positions_more x e is.kinds is.are is.history is.positions);
+      };
+      last = are_events;
+      watched = watched_before;
+      before = is.linearizable;
+    }
+
+    abbrev are_after : AreKinds e.after.heading e.after.from is.kinds
+    are_after = are_now x e is.kinds is.are is.history is.positions
+
+    event_stops : (report : Report) (n : Monitor)
+        → Judges m n x (Err (rejections.Refused report)) → KeepsText mid new
+        → Stops (stops.Refused x report) ps new
+    event_stops report n judges keeps =
+        let refused : IsRefused is.kinds is.spsc before x report =
+        judges is.kinds is.spsc before now one_each is.watches in
+        stopped (stops.Refused x report) (
+          e.after,
+          w.events ++ x ∷ [],
+          ap (λ (f : Follower). stage_with_events (w.events ++ x ∷ []) f) keeps.follower ∙ e.is,
+          record {
             kinds = is.kinds;
-            are = are_now x e is.kinds is.are is.history is.positions;
-            watched = subst AreWatched (sym same) watched;
-            linearizable = subst (IsLinearizable is.kinds) (sym same) fine;
-            history = history_more x e is.kinds is.are is.history is.positions;
-            positions = positions_more x e is.kinds is.are is.history is.positions;
-            watches = subst (λ (p : List Event). monitors.Watches is.kinds p n) (sym same) verdict.1;
-          }))
+            spsc = is.spsc;
+            past = before;
+            up_to = up_to_now keeps.number;
+            watched = refused_watched e.after.heading e.after.from is.kinds is.spsc are_after
+                listed_now before x now report refused;
+            refused = refused;
+          },
+        )
 
-      judged_goes : (result : Result (Unit {0}) Stop) → IsTaken (Some m) x mid new result
-          → StateAfterLine result ps (q ∷ qs) new
-      judged_goes (Ok u) t = event_taken t.0.0 t.0.1 t.0.2 t.1 t.2
-      judged_goes (Err (stops.Refused y report)) (inl t) =
-          subst (λ (z : Event). Stops (stops.Refused z report) ps new) (sym t.0.0)
-          (event_stops report t.0.1.0 t.0.1.1 t.1)
-      judged_goes (Err stops.Memory) (inl t) = stopped stops.Memory tt
-      judged_goes (Err stops.RefusedAtEnd) (inl t) = absurd t.0
-      judged_goes (Err stops.NotDecided) (inl t) = absurd t.0
-      judged_goes (Err stops.TooLarge) (inl t) = absurd t.0
-      judged_goes (Err (stops.Unread fault)) (inl t) = absurd t.0
-      judged_goes (Err stop) (inr memory) = memory_goes stop memory
+    event_taken : (n : Monitor) → new.monitor ≡ Some n → Judges m n x (Ok tt)
+        → LoadGrows mid x new → KeepsText mid new → IsWatching ps (q ∷ qs) new
+    event_taken n at judges grows keeps =
+        let verdict = judges is.kinds is.spsc before now one_each is.watches in
+        let watched : AreWatched e.after.heading (x ∷ before) = (
+          taken_watched e.after.heading e.after.from is.kinds is.spsc are_after listed_now before x
+              now n verdict.1,
+          watched_before,
+        ) in
+        taken_so x e is.kinds is.are is.history is.positions keeps grows
+        (subst (IsMonitored (Running e.after) (w.events ++ x ∷ [])) (sym at) (record {
+          kinds = is.kinds;
+          are = are_after;
+          spsc = is.spsc;
+          listed = listed_now;
+          watched = subst (AreWatched e.after.heading) (sym now_are) watched;
+          linearizable = subst (IsLinearizable is.kinds) (sym now_are) verdict.0;
+          history = history_more x e is.kinds is.are is.history is.positions;
+          positions = positions_more x e is.kinds is.are is.history is.positions;
+          watches = subst (λ (p : List Event). monitors.Watches is.kinds is.spsc p n) (sym now_are)
+              verdict.1;
+        }))
 
-  invoked : (x : Event) (past : List Event) → invokes_cells x.action ≡ true
-      → AreWatched (x ∷ past) → ⊥
-  invoked x past cells watched =
-      let never : true ≡ false = sym cells ∙ watched.0 in
-      cc
+    -- an event that is not for the monitor
+    passed_over : IsPassedOver m x → AreWatched e.after.heading (x ∷ before) → ⊥
+    passed_over p =
+        unwatched_called e.after.heading e.after.from is.kinds is.spsc are_after listed_now before x
+        now (p.1 is.kinds is.spsc before now one_each is.watches)
+
+    judged_stops : (stop : Stop) → IsJudged m x new.monitor (Err stop) → KeepsText mid new
+        → Stops stop ps new
+    judged_stops (stops.Refused y report) t keeps =
+        subst (λ (z : Event). Stops (stops.Refused z report) ps new) (sym t.0)
+        (event_stops report t.1.0 t.1.1 keeps)
+    judged_stops stops.Memory t keeps = stopped stops.Memory tt
+    judged_stops stops.RefusedAtEnd t keeps = absurd t
+    judged_stops stops.NotDecided t keeps = absurd t
+    judged_stops stops.TooLarge t keeps = absurd t
+    judged_stops (stops.Unread fault) t keeps = absurd t
+
+    judged_goes : (result : Result (Unit {0}) Stop) → IsTaken (Some m) x mid new result
+        → StateAfterLine result ps (q ∷ qs) new
+    judged_goes (Ok u) (inl j, grows, keeps) = event_taken j.0 j.1 j.2 grows keeps
+    judged_goes (Ok u) (inr p, grows, keeps) =
+        read_so x e is.kinds is.are is.history is.positions (passed_over p.0) keeps grows p.1.1
+    judged_goes (Err stop) (inl (inl j, keeps)) = judged_stops stop j keeps
+    judged_goes (Err stop) (inl (inr p, keeps)) =
+        left_stops x e is.kinds is.are is.history is.positions (passed_over p.0) stop p.1.0
+    judged_goes (Err stop) (inr memory) = memory_goes stop memory
 
   event_goes : (x : Event) (e : IsEvent line w.events x old.follower.stage mid.follower.stage)
-      (b : Bool) (o : Option Monitor) → invokes_cells x.action ≡ b
-      → IsMonitored (Running e.before) w.events o → (result : Result (Unit {0}) Stop)
-      → IsTaken (if b then None else o) x mid new result → StateAfterLine result ps (q ∷ qs) new
-  event_goes x e true (Some m) cells is result t =
-      left_goes x e is.kinds is.are is.history is.positions (invoked x (reverse w.events) cells)
-      result t
-  event_goes x e true None cells is result t =
-      left_goes x e is.kinds is.are is.history is.positions (invoked x (reverse w.events) cells)
-      result t
-  event_goes x e false (Some m) plain is result t = judged_goes x e m is plain result t
-  event_goes x e false None plain is result t =
-      left_goes x e is.kinds is.are is.history is.positions (λ watched. is.cells watched.1) result t
+      (o : Option Monitor) → IsMonitored (Running e.before) w.events o
+      → (result : Result (Unit {0}) Stop) → IsTaken o x mid new result
+      → StateAfterLine result ps (q ∷ qs) new
+  event_goes x e (Some m) is result t = judged_goes x e m is result t
+  event_goes x e None is result t =
+      left_goes x e is.kinds is.are is.history is.positions
+      (λ watched. is.unwatched (subst (λ (h : HeadingModel). AreWatched h (reverse w.events))
+      (sym e.heading) watched.1)) result t
 
   -- THE LINE END
 
@@ -426,6 +474,10 @@ module _ (ps qs : List (List ℕ)) (q line : List ℕ) (old mid new : Watcher)
       linearizable = subst (λ (es : List Event). IsLinearizable is.kinds (reverse es))
           (sym e.events_are) is.linearizable;
     }
+
+    whole_watched : IsReading e.whole w.events → CallsUnwatched e.whole
+    whole_watched reading = λ watched.
+        reading.unwatched (subst (AreWatched e.whole.heading) (ap reverse e.events_are) watched)
 
     whole_read : parse_from w.start Opening w.begun ≡ Ok read
     whole_read = reached_end w.start w.begun e.whole (old.number + 1) q qs reached_whole
@@ -497,14 +549,14 @@ module _ (ps qs : List (List ℕ)) (q line : List ℕ) (old mid new : Watcher)
         ap (λ (r : RecordingModel).
         record { recorded = r; number = d.decided.read.number; rest = q ∷ qs }) same.recorded
         ∙ ap (λ (n : ℕ). record { recorded = e.whole; number = n; rest = q ∷ qs }) same.number in
-        let are : reverse d.decided.read.recording.events ≡ reverse w.events =
-        ap (λ (r : RecordingModel). reverse r.events) same.recorded ∙ ap reverse e.events_are in
         record {
           decided = d.decided;
           is = d.is;
           rest = q ∷ qs;
           reads = whole_read ∙ ap Ok (sym one);
-          cells = λ watched. reading.cells (subst AreWatched are watched);
+          unwatched = λ watched. whole_watched reading
+              (subst (λ (r : RecordingModel). AreWatched r.heading (reverse r.events)) same.recorded
+              watched);
         }
 
     refused_now : IsReading e.whole w.events → (d : DecidesAs mid new (Err stops.RefusedAtEnd))
@@ -543,9 +595,7 @@ module _ (ps qs : List (List ℕ)) (q line : List ℕ) (old mid new : Watcher)
         → Stops stop ps new
     end_stops reading stops.Memory d = stopped stops.Memory tt
     end_stops reading stops.TooLarge long =
-        too_large (Ended e.whole) e.whole e.steps refl
-        (λ watched. reading.cells
-        (subst AreWatched (ap reverse e.events_are) watched)) long
+        too_large (Ended e.whole) e.whole e.steps refl (whole_watched reading) long
     end_stops reading stops.RefusedAtEnd d = refused_now reading d d.decided.verdict refl d.outcome
     end_stops reading stops.NotDecided d = open_now reading d d.decided.verdict refl d.outcome
     end_stops reading (stops.Unread fault) d =
@@ -582,7 +632,7 @@ module _ (ps qs : List (List ℕ)) (q line : List ℕ) (old mid new : Watcher)
   line_goes lines.Heading result h by = nothing_goes h result by
   line_goes lines.Run result h by = run_goes h result (by h.begun h.is)
   line_goes (lines.Event x) result e by =
-      event_goes x e (invokes_cells x.action) mid.monitor refl
+      event_goes x e mid.monitor
       (subst (IsMonitored (Running e.before) w.events) (sym monitor)
       (known_stage (stage_with_events w.events old.follower) e.before w.events old.monitor e.was
       w.monitored)) result by
@@ -723,20 +773,26 @@ pub opened_same : (q r : RecordingModel) (m : Monitor) → Running (with_events 
     → IsOpened q m → IsOpened r m
 opened_same q r m same o =
     subst (λ (t : RecordingModel). IsOpened t m) (running_same (with_events q []) r same)
-    (record { kinds = o.kinds; are = o.are; watches = o.watches })
+    (record {
+      kinds = o.kinds;
+      are = o.are;
+      spsc = o.spsc;
+      listed = o.listed;
+      watches = o.watches;
+    })
 
 -- AN EVENT THAT WAS COUNTED
 
 pub event_done : (m : Option Monitor) (x : Event) (old new : Watcher) (n : ℕ)
     (result : Result (Unit {0}) Stop)
-    → JudgedBy (monitor_at x.action m) old.kept x new.monitor (Ok tt) → KeepsText old new
+    → JudgedBy m old.kept x new.monitor (Ok tt) → KeepsText old new
     → ((events : List Event) (r : RecordingModel) → HasEvents events old.follower
     → stage_with_events events old.follower ≡ Running r
     → n ≡ length (pending_calls (reverse events)))
     → OnOk result (new.load.calls ≡ old.load.calls + invocation_count x.action)
     → OnOk result (new.load.others ≡ old.load.others + others_at x.action n)
     → new.load.histories ≡ old.load.histories → IfErr result (λ stop. stop ≡ stops.Memory)
-    → IsEventTaken m x old new result
+    → IsTaken m x old new result
 event_done m x old new n (Ok u) judged keeps pending calls others histories memory = (
   judged,
   λ events r seen at. record {

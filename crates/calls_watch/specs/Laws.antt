@@ -1,5 +1,5 @@
 -- What `watch` and `check` find of one text.
-use Rattle.std.specs.Prelude.{◌≡◌, ◌<◌, ℕ, List, [], ◌∷◌, length, Ok}
+use Rattle.std.specs.Prelude.{◌≡◌, ◌<◌, ◌≤◌, ◌^◌, ◌⊎◌, ℕ, List, [], ◌∷◌, length, reverse, Ok}
 use Rattle.ec_text.specs.Puts.{OutputModel}
 use Rattle.calls_core.specs.declared.history.Event.{Event}
 use Rattle.calls_verdict.specs.declared.verdict.Refusal.{Refusal}
@@ -12,7 +12,8 @@ use Rattle.calls_report.specs.declared.status.Status.{Status}
 use Rattle.calls_report.specs.declared.status.Status.TheVariants.{Done, Refused}
 use Rattle.calls_report.specs.declared.status.Status.TheVariants.{InputOutput, Memory, NotDecided}
 use Rattle.calls_report.specs.Checks.{Outputs, JudgedHistory, AreJudged, IsJudged, IsRefused}
-use Rattle.calls_watch.specs.Watches.{AreGood, IsStopped, HasCells, IsWatchedTo}
+use Rattle.calls_watch.specs.Watches.{no_object, CallNone, CallsCells, HasCalls}
+use Rattle.calls_watch.specs.Watches.{AreGood, IsStopped, IsWatchedTo}
 
 -- CALLS OF CELLS, DATABASES AND BUFFERS
 
@@ -29,7 +30,7 @@ pub record CallsCellsIn (text : List ℕ) : Type 0 where
   pub number : ℕ
   pub rest : List (List ℕ)
   pub are : AreRead 1 (lines_of_text text) reads number rest
-  pub cells : HasCells number rest
+  pub cells : HasCalls CallsCells number rest
 
 -- BOTH
 
@@ -59,8 +60,9 @@ WatchAgreesWithCheck =
     (before after : OutputModel) → IsWatchedTo watched text old new
     → IsJudged checked text judged before after → Agree text watched checked
 
--- if both reject a history at an event, and `watch` when its line came, it is the same event of the
--- same history
+-- if both reject a history at an event, and `watch` when its line came, it is an event of the same
+-- history, and `check` names no earlier one. It is the same event, unless a buffer is called up to it
+-- and the text has 2 ^ 64 bytes or more, which no file has
 abbrev pub BothRefuseOneEvent : Type 0
 BothRefuseOneEvent =
     (text : List ℕ) (reads : List OneRead) (n : ℕ) (ps : List (List ℕ)) (m : ℕ) (r : RecordingModel)
@@ -68,4 +70,5 @@ BothRefuseOneEvent =
     (read : OneRead) (refusal : Refusal) → AreGood 1 (lines_of_text text) reads n ps
     → IsStopped n ps m r x report → AreJudged 1 (lines_of_text text) judged k qs
     → parse_from k Opening qs ≡ Ok read → IsRefused read.recorded refusal
-    → (n ≡ k) × (x.at ≡ refusal.at)
+    → (n ≡ k) × (x.at ≤ refusal.at)
+    × (CallNone no_object (reverse r.events) ⊎ (length text < 2 ^ 64) → x.at ≡ refusal.at)

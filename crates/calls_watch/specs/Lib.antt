@@ -1,3 +1,4 @@
+pub mod Spsc
 pub mod Loads
 pub mod Watches
 pub mod Laws

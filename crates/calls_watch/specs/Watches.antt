@@ -1,7 +1,8 @@
 -- What `watch` returned and wrote, for an input whose bytes are known.
 use Rattle.std.specs.Prelude.{◌≡◌, ◌<◌, ◌⊎◌, ℕ, ◌-◌, List, [], ◌∷◌, length, reverse}
-use Rattle.std.specs.Prelude.{Ok, Bool, true, false, codes}
+use Rattle.std.specs.Prelude.{Ok, Bool, true, false, ◌&&◌, not, codes}
 use Rattle.std.specs.Io.KnownBytes.{Appends}
+use Rattle.ec_heading.specs.HeadingModel.{HeadingModel}
 use Rattle.ec_heading.specs.Spelling.{lines_text}
 use Rattle.ec_text.specs.Puts.{OutputModel, Puts, AppendsPrefix}
 use Rattle.calls_core.specs.declared.history.Kind.{Kind}
@@ -10,8 +11,11 @@ use Rattle.calls_core.specs.declared.history.Op.TheVariants.{Put, Get, Produce, 
 use Rattle.calls_core.specs.declared.history.Action.{Action}
 use Rattle.calls_core.specs.declared.history.Action.TheVariants.{Invoke, Respond}
 use Rattle.calls_core.specs.declared.history.Event.{Event}
+use Rattle.calls_core.specs.declared.history.Call.{Call}
 use Rattle.calls_core.specs.Completions.{IsLinearizable}
 use Rattle.calls_counts.specs.declared.monitor.Refusal.TheVariants as counts
+use Rattle.calls_spsc.specs.declared.monitor.Refusal as items
+use Rattle.calls_spsc.specs.declared.monitor.Refusal.TheVariants as item
 use Rattle.calls_monitor.specs.declared.monitor.Refused.{Refused as Report}
 use Rattle.calls_monitor.specs.declared.object.Refusal.{Refusal}
 use Rattle.calls_monitor.specs.declared.object.Refusal.TheVariants as refusals
@@ -30,6 +34,7 @@ use Rattle.calls_report.specs.declared.checking.TheConstants.{TEXT_MAX}
 use Rattle.calls_report.specs.Notes.{site_at, refusal_note}
 use Rattle.calls_report.specs.Checks.{Outputs, SaysUnread, SaysRefused, SaysOpen}
 use Rattle.calls_watch.specs.Loads.{summary_of}
+use Rattle.calls_watch.specs.Spsc.{is_spsc}
 
 -- CALLS OF CELLS, DATABASES AND BUFFERS
 
@@ -41,19 +46,32 @@ is_of_cells (Produce v) = true
 is_of_cells Consume = true
 is_of_cells _ = false
 
--- whether an event invokes such a call
-abbrev pub invokes_cells : Action → Bool
-invokes_cells (Invoke k op) = is_of_cells op
-invokes_cells (Respond r) = false
+-- no object
+abbrev pub no_object : ℕ → Bool
+no_object k = false
 
--- none of the events does: each of them is judged when its line comes
-abbrev pub AreWatched : List Event → Type 0
-AreWatched [] = Unit {0}
-AreWatched (x ∷ past) = (invokes_cells x.action ≡ false) × AreWatched past
+-- whether an event invokes such a call, but not one of these objects
+abbrev pub invokes_cells : (ℕ → Bool) → Action → Bool
+invokes_cells others (Invoke k op) = is_of_cells op && not (others k)
+invokes_cells others (Respond r) = false
+
+-- none of the events does
+abbrev pub CallNone : (ℕ → Bool) → List Event → Type 0
+CallNone others [] = Unit {0}
+CallNone others (x ∷ past) = (invokes_cells others x.action ≡ false) × CallNone others past
+
+-- one of the events of the history invokes a call of a cell, a database or a buffer
+abbrev pub CallsCells : RecordingModel → Type 0
+CallsCells r = CallNone no_object (reverse r.events) → ⊥
+
+-- each event of a history with this header is judged when its line comes: none invokes a call of a
+-- cell, a database, or a buffer that has not one producer and one consumer
+abbrev pub AreWatched : HeadingModel → List Event → Type 0
+AreWatched h past = CallNone (is_spsc h) past
 
 -- one of the events of the history does
-abbrev pub CallsCells : RecordingModel → Type 0
-CallsCells r = AreWatched (reverse r.events) → ⊥
+abbrev pub CallsUnwatched : RecordingModel → Type 0
+CallsUnwatched r = AreWatched r.heading (reverse r.events) → ⊥
 
 -- HISTORIES, ONE AFTER ANOTHER
 
@@ -72,6 +90,13 @@ AreGood n ps (r ∷ rs) m qs =
 
 -- WHAT STOPS IT
 
+-- the certificate of what the monitor of a buffer reports of a call
+abbrev pub item_certificate : Call → items.Refusal → Certificate
+item_certificate c (item.NotNext v) = shows.NotNext c v
+item_certificate c item.Empty = shows.NoItem c
+item_certificate c item.Full = shows.NoRoom c
+item_certificate c item.Needed = shows.Needed c
+
 -- the certificate of what the monitor of an object reports
 abbrev pub shown_by : RecordingModel → ℕ → Refusal → Certificate
 shown_by r k (refusals.Count (counts.Below c)) = shows.Below c
@@ -79,6 +104,7 @@ shown_by r k (refusals.Count (counts.Few c low invoked)) = shows.Few c invoked (
 shown_by r k (refusals.Count (counts.Many c high made)) = shows.Sure c made (start_at r k)
 shown_by r k (refusals.Ticket t) = shows.Unordered t.call
 shown_by r k (refusals.Units f) = shows.NoUnit f.index
+shown_by r k (refusals.Items f) = item_certificate f.call f.refusal
 
 -- the number of the line of the event at position 0, if m is that of the line after the event at a
 -- position
@@ -90,8 +116,8 @@ refused_note m r x report =
     refusal_note (site_at r report.object (line_of_first m x.at) x.at)
     (shown_by r report.object report.refusal)
 
--- from line n on the lines lead to a history whose last event is x. The events before it call no
--- cell, database or buffer, and have a linearization. Line m is the next
+-- from line n on the lines lead to a history whose last event is x. The events before it were judged
+-- when their lines came, and have a linearization. Line m is the next
 pub record IsUpTo (n : ℕ) (ps : List (List ℕ)) (m : ℕ) (r : RecordingModel) (kinds : List Kind)
     (past : List Event) (x : Event) : Type 0 where
   pub next : List ℕ
@@ -99,27 +125,28 @@ pub record IsUpTo (n : ℕ) (ps : List (List ℕ)) (m : ℕ) (r : RecordingModel
   pub reached : IsReached n ps (Running r) m (next ∷ left)
   pub recording : IsRecording r kinds
   pub last : reverse r.events ≡ x ∷ past
-  pub watched : AreWatched past
+  pub watched : AreWatched r.heading past
   pub before : IsLinearizable kinds past
 
 -- with the event x there is none, and this is the report on it
 pub record IsStopped (n : ℕ) (ps : List (List ℕ)) (m : ℕ) (r : RecordingModel) (x : Event)
     (report : Report) : Type 0 where
   pub kinds : List Kind
+  pub spsc : List ℕ
   pub past : List Event
   pub up_to : IsUpTo n ps m r kinds past x
-  pub watched : invokes_cells x.action ≡ false
-  pub refused : IsRefused kinds past x report
+  pub watched : invokes_cells (is_spsc r.heading) x.action ≡ false
+  pub refused : IsRefused kinds spsc past x report
 
 abbrev pub SaysStopped : ℕ → List (List ℕ) → OutputModel → OutputModel → Type 0
 SaysStopped n ps old new =
     (m : ℕ) × (r : RecordingModel) × (x : Event) × (report : Report) × IsStopped n ps m r x report
     × Puts old new (refused_note m r x report)
 
--- the history from line n on calls a cell, a database or a buffer. It has no linearization, and a
--- note says why
+-- the history from line n on calls an object that is not watched. It has no linearization, and a note
+-- says why
 abbrev pub SaysRefusedAtEnd : ℕ → List (List ℕ) → OutputModel → OutputModel → Type 0
-SaysRefusedAtEnd n ps old new = (s : SaysRefused n ps old new) × CallsCells s.0.recorded
+SaysRefusedAtEnd n ps old new = (s : SaysRefused n ps old new) × CallsUnwatched s.0.recorded
 
 -- this history, or this prefix of one, was read up to this stage
 abbrev pub IsReadAt : Stage → RecordingModel → Type 0
@@ -127,9 +154,8 @@ IsReadAt (Running r) read = r ≡ read
 IsReadAt (Ended r) read = r ≡ read
 IsReadAt _ read = ⊥
 
--- from line n on the first lines are those of a history, or of a prefix of one, which calls a cell,
--- a database or a buffer
-pub record HasCells (n : ℕ) (ps : List (List ℕ)) : Type 0 where
+-- from line n on the first lines are those of a history, or of a prefix of one, of which this holds
+pub record HasCalls (These : RecordingModel → Type 0) (n : ℕ) (ps : List (List ℕ)) : Type 0 where
   pub stage : Stage
   pub number : ℕ
   pub next : List ℕ
@@ -137,12 +163,12 @@ pub record HasCells (n : ℕ) (ps : List (List ℕ)) : Type 0 where
   pub reached : IsReached n ps stage number (next ∷ left)
   pub recorded : RecordingModel
   pub is : IsReadAt stage recorded
-  pub cells : CallsCells recorded
+  pub calls : These recorded
 
 -- such lines have more than TEXT_MAX bytes, and a note says so
 abbrev pub SaysTooLarge : ℕ → List (List ℕ) → OutputModel → OutputModel → Type 0
 SaysTooLarge n ps old new =
-    (c : HasCells n ps) × (TEXT_MAX < length (lines_text c.reached.lines))
+    (c : HasCalls CallsUnwatched n ps) × (TEXT_MAX < length (lines_text c.reached.lines))
     × Puts old new (codes "too large\n")
 
 -- ALL OF IT

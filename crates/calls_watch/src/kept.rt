@@ -16,7 +16,7 @@ use std::alloc::Global;
 pub(crate) enum Kept {
     /// Its lines, each with its LF.
     Text(Vec<u8>),
-    /// The history declares no cell, no database and no buffer.
+    /// The history declares no object that is not watched.
     Unneeded,
     /// The text has more than `TEXT_MAX` bytes.
     TooLong,

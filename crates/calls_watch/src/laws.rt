@@ -10,6 +10,8 @@ pub fn watch_agrees_with_check()
 {}
 
 /// States that if `watch` and `check` both reject a history at an event, it is the same event.
+///
+/// A text has fewer than 2 ^ 64 bytes, or no cell, database or buffer is called up to the event.
 pub fn both_refuse_one_event()
     ensures { BothRefuseOneEvent }
 {}

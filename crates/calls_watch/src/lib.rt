@@ -6,6 +6,7 @@ mod kept;
 mod laws;
 mod load;
 mod shown;
+mod spsc;
 mod stop;
 mod watcher;
 mod watching;

@@ -14,7 +14,7 @@ pub enum Stop {
     RefusedAtEnd,
     /// The history is not decided.
     NotDecided,
-    /// The history calls a cell, a database or a buffer, and has more than `TEXT_MAX` bytes.
+    /// The history calls an object that is not watched, and has more than `TEXT_MAX` bytes.
     TooLarge,
     /// An allocation failed, or a number would overflow.
     Memory,

@@ -1,5 +1,5 @@
 //! Judges the histories of a text line by line.
-ghost use Rattle.std.specs.Prelude.{◌≡◌, ◌<◌, ◌∷◌, [], List, ℕ, Some, length, true, false};
+ghost use Rattle.std.specs.Prelude.{◌≡◌, ◌<◌, ◌+◌, ◌^◌, ◌∷◌, [], List, ℕ, Some, length, true, false};
 ghost use Rattle.calls_core.specs.declared.history.Event.{Event};
 ghost use Rattle.calls_core.specs.Histories.{pending_calls};
 ghost use Rattle.calls_monitor.specs.declared.monitor.Monitor.{Monitor};
@@ -7,17 +7,18 @@ ghost use Rattle.calls_text.specs.Outcomes.{lines_of_text};
 ghost use Rattle.calls_text.specs.Reading.{Running};
 ghost use Rattle.calls_text.specs.Recordings.{RecordingModel};
 ghost use Rattle.calls_text.specs.Following.{stage_with_events, HasEvents};
-ghost use Rattle.calls_watch.specs.Watches.{invokes_cells};
-ghost use Rattle.calls_watch.specs.kept.Texts.{is_cells, declares_cells};
+ghost use Rattle.calls_watch.specs.kept.Texts.{is_unwatched, declares_unwatched};
 ghost use Rattle.calls_watch.specs.kept.Watching.{IsWatching, StateAfterLine, EndsAs, Stops, JudgedBy};
-ghost use Rattle.calls_watch.specs.kept.Watching.{Begins, IsEventTaken, Decides, DecidesUnjudged};
-ghost use Rattle.calls_watch.specs.kept.Watching.{IsBegunAgain, EndsHistory, GoesOnBy, MayEnd, GoesOnAt, monitor_at};
+ghost use Rattle.calls_watch.specs.kept.Watching.{Begins, IsTaken, Decides, DecidesUnjudged};
+ghost use Rattle.calls_watch.specs.kept.Watching.{IsBegunAgain, EndsHistory, GoesOnBy, MayEnd, GoesOnAt};
+ghost use Rattle.calls_watch.specs.kept.Watching.{NeedsText};
 
 use crate::kept::Kept;
 use crate::load::Load;
+use crate::spsc::spsc_buffers;
 use crate::stop::Stop;
 use crate::whole::{DecidedHistory, decide_text, outcome_of};
-use calls_core::{Action, Event, Kind, Op};
+use calls_core::{Event, Kind};
 use calls_monitor::{Monitor, Rejection};
 use calls_text::{Follower, HistoryLine};
 use std::alloc::Global;
@@ -25,12 +26,13 @@ use std::alloc::Global;
 /// The state of `watch`, after some lines of a text.
 ///
 /// The histories so far are linearizable. Of the next one a prefix was read. It is linearizable,
-/// unless it calls a cell, a database or a buffer: then its text is kept, and it is decided at its
-/// end. Apart from this text the state does not grow.
+/// unless it calls an object that is not watched: a cell, a database, or a buffer that has not one
+/// producer and one consumer. Then its text is kept, and it is decided at its end. Apart from this
+/// text the state does not grow.
 #[derive(Drop)]
 pub struct Watcher {
     pub(crate) follower: Follower,
-    /// Judges each event, up to the first call of a cell, a database or a buffer.
+    /// Judges each event, up to the first call of an object that is not watched.
     pub(crate) monitor: Option<Monitor>,
     /// The number of the next line.
     pub(crate) number: u64,
@@ -42,63 +44,59 @@ pub struct Watcher {
     pub(crate) decided: Option<DecidedHistory>,
 }
 
-/// Returns whether an event invokes a call of a cell, a database or a buffer.
-fn invokes_cells(action: Action) -> bool
-    ensures { result ≡ invokes_cells action }
-{
-    match action {
-        Action::Invoke(_, op) => {
-            matches!(op, Op::Put(_) | Op::Get | Op::Produce(_) | Op::Consume)
-        }
-        Action::Respond(_) => false,
-    }
-}
-
-/// Returns whether an object is a cell, a database or a buffer.
+/// Returns whether calls of an object of this kind are only decided at the end of the history.
 ///
-/// A semaphore counts as a database without cells, and is not meant.
-fn is_cells(kind: &Kind) -> bool
-    ensures { result ≡ is_cells kind.now }
+/// `is_spsc` says whether it is a buffer with one producer and one consumer. A semaphore counts as a
+/// database without cells, and is not meant.
+fn is_unwatched(is_spsc: bool, kind: &Kind) -> bool
+    ensures { result ≡ is_unwatched is_spsc kind.now }
 {
     match kind {
-        Kind::Cell | Kind::Buffer(_) => true,
+        Kind::Cell => true,
         Kind::Database(cells) => *cells > 0,
+        Kind::Buffer(_) => !is_spsc,
         Kind::Eventcount(_) | Kind::Sequencer | Kind::Semaphores(_) => false,
     }
 }
 
-/// Returns whether one of the objects is a cell, a database or a buffer.
-fn declares_cells(kinds: &[Kind]) -> bool
-    ensures { result ≡ declares_cells kinds.now }
+/// Returns whether one of these objects is so, the first of which has the index `object`.
+fn declares_unwatched(spsc: &[usize], object: usize, kinds: &[Kind]) -> bool
+    requires { object + length kinds.now < 2 ^ 64 }
+    ensures { result ≡ declares_unwatched spsc.now object kinds.now }
 {
     match kinds {
         [] => false,
-        [kind, rest @ ..] => is_cells(kind) || declares_cells(rest),
+        [kind, rest @ ..] => {
+            is_unwatched(spsc.contains(&object), kind) || declares_unwatched(spsc, object + 1, rest)
+        }
     }
 }
 
-/// Drops the monitor if the event invokes a call of a cell, a database or a buffer.
-fn drop_monitor(monitor: &mut Option<Monitor>, action: Action)
-    ensures { monitor.new ≡ monitor_at action monitor.old }
+/// Returns an error if the text is not kept, and so cannot be decided at the end of the history.
+fn need_text(kept: &Kept) -> Result<(), Stop>
+    ensures { NeedsText kept.now result }
 {
-    if invokes_cells(action) {
-        *monitor = None;
+    match kept.text() {
+        Ok(_) => Ok(()),
+        Err(stop) => Err(stop),
     }
 }
 
-/// Judges an event by the monitor. Without one the text has to be kept.
+/// Judges an event by the monitor. After the first call of an object that is not watched there is
+/// none, and the text has to be kept.
 fn judge(monitor: &mut Option<Monitor>, kept: &Kept, event: Event) -> Result<(), Stop>
     ensures { JudgedBy monitor.old kept.now event monitor.new result }
 {
     let Some(watching) = monitor else {
-        return match kept.text() {
-            Ok(_) => Ok(()),
-            Err(stop) => Err(stop),
-        };
+        return need_text(kept);
     };
     match watching.event(event) {
         Ok(()) => Ok(()),
         Err(Rejection::Refused(refused)) => Err(Stop::Refused(event, refused)),
+        Err(Rejection::Unwatched) => {
+            *monitor = None;
+            need_text(kept)
+        }
         // (a history has at most 16 workers, and there is room for 64 pending calls)
         Err(Rejection::Full) => Err(Stop::Memory),
     }
@@ -135,8 +133,11 @@ impl Watcher {
         let Some(recording) = self.follower.recording() else {
             return Err(Stop::Memory);
         };
-        let needed = declares_cells(recording.kinds());
-        let Ok(monitor) = Monitor::open(alloc, recording.kinds()) else {
+        let Ok(spsc) = spsc_buffers(alloc, recording.heading()) else {
+            return Err(Stop::Memory);
+        };
+        let needed = declares_unwatched(&spsc, 0, recording.kinds());
+        let Ok(monitor) = Monitor::open(alloc, recording.kinds(), &spsc) else {
             return Err(Stop::Memory);
         };
         self.monitor = Some(monitor);
@@ -146,9 +147,8 @@ impl Watcher {
 
     /// Judges an event, if there is a monitor, and counts it.
     fn event(&mut self, event: Event) -> Result<(), Stop>
-        ensures { IsEventTaken self.old.monitor event self.old self.new result }
+        ensures { IsTaken self.old.monitor event self.old self.new result }
     {
-        drop_monitor(&mut self.monitor, event.action);
         judge(&mut self.monitor, &self.kept, event)?;
         self.load.add_event(event.action, self.follower.pending())
     }

@@ -85,7 +85,7 @@ pub(crate) const WATCH_ABOUT: &str =
     "Judges each event when its line comes, or some histories at their end";
 
 pub(crate) const WATCH_LONG_ABOUT: &str =
-    "Judges each event when its line comes; a history with cells, databases or buffers at its end.
+    "Judges each event when its line comes, or some histories at their end.
 
 It reads the output of a program that still runs, for example through a pipe. The first event with
 which a history is not linearizable ends it at once, with a note. At the end it writes one line: how
@@ -95,9 +95,10 @@ called, to two decimals, cut off:
     2 histories, 1200 calls, overlap 1.37
 
 Calls that rarely overlap test little. No order is written, and no remark. The first call of a cell,
-a database or a buffer is different: from it on the history is only read, and at its end decided, as
-by `check`. Its text is kept, up to 64 MiB; other histories are not, and have any length. For a note
-with all the lines that show the fault, record the text and run `evc-calls check` on it.";
+a database, or a buffer with several producers or consumers is different: from it on the history is
+only read, and at its end decided, as by `check`. Its text is kept, up to 64 MiB; other histories
+are not, and have any length. For a note with all the lines that show the fault, record the text and
+run `evc-calls check` on it.";
 
 pub(crate) const FILE: &str =
     "The file with the histories; without it they are read from standard input";

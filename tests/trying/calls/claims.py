@@ -410,6 +410,9 @@ class Claim:
         put = self.puts(self.untaken(other.last), lambda call: call.last is not None and call.last <= one.last)
         asking = self.pending_takes(other.last)
         need(put > asking, "they may have been taken")
+        right = None if other.last == self.at else words["other"]
+        need(words["K"] == right, "the line of the consume is there if and only if another call ends at line N")
+        need((words["pending"] is None) == (asking == 0), "pending consumes are there if and only if there are any")
         self.counts(words, later_item=other.reply, left=put, pending=asking)
 
     def squeezed(self, words):

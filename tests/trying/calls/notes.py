@@ -88,9 +88,9 @@ NOTES = {
     f" but consumed after line (?P<other>{NUMBER}) had returned that"
     f"(?:: {some('before', 'produce')} by line (?P=one) and {some('later', 'consume')} after line (?P=other),"
     f" of {some('all', 'produce')} in all)?",
-    "passed": f"{BY_LINE}{some('left', 'item')} had been put in, and no (?P<later_item>{NUMBER}) produced;"
-    f" line (?P<other>{NUMBER}) returned that, and no consume called by then has returned the others,"
-    f" with (?P<pending>{NUMBER}) of these pending",
+    "passed": f"(?:line (?P<K>{NUMBER}) had )?returned (?P<later_item>{NUMBER}), but {BY_LINE}before any"
+    f" (?P=later_item) was produced, {some('left', 'item')} had been put in that no consume called by line"
+    f" (?P<other>{NUMBER}) has returned(?:, with only (?P<pending>(?!0){NUMBER}) of these consumes pending)?",
     "squeezed": f"{BY_LINE}{some('left', 'item')} had been put in that no consume called by line (?P<other>{NUMBER})"
     f" has returned, {ASKING}; and (?P<item>{NUMBER}), put in once, by then, was not taken by line (?P=one)",
     "overdue": f"(?P<bounds>{BOUND}(?:; {BOUND})*)",

@@ -73,7 +73,14 @@ class Threads:
 
     def buffer(self, name):
         produce = self.draw.sample(self.workers, self.draw.randint(1, len(self.workers) - 1))
-        consume, room = [it for it in self.workers if it not in produce], self.draw.randint(1, 3)
+        self.buffer_of(name, produce, [it for it in self.workers if it not in produce])
+
+    def pair(self, name):
+        producer, consumer = self.draw.sample(self.workers, 2)
+        self.buffer_of(name, [producer], [consumer])
+
+    def buffer_of(self, name, produce, consume):
+        room = self.draw.randint(1, 3)
         names = f"{' '.join(produce)} consume {' '.join(consume)}"
         self.declarations.append(f"buffer {name} {room} produce {names}")
         self.states[name] = room, ()

@@ -5,6 +5,7 @@ import re
 from trying.calls.claims import Claim
 from trying.calls.notes import ADVANCES, FROM, NOTE, NOTES, NUMBER, RETURNED
 from trying.calls.reader import Reader, scan
+from trying.calls.pairs import fault_of_pair, is_pair, items_of_pair
 from trying.calls.theorems import fault_by_theorem, givers, least_of, made_between, most_of, readers, takers
 from trying.counting import Fault, need
 
@@ -16,6 +17,14 @@ UNORDERED = re.compile(
     f"returned (?P<value>{NUMBER}), which no order of the tickets of (?P<T>[^ ]+) gives"
 )
 NO_UNIT = re.compile("no unit of (?P<S>[^ ]+) was left")
+# Of a buffer with one producer and one consumer.
+OF_PAIRS = {
+    "not_next": f"returned (?P<item>{NUMBER}), but the next item in (?P<B>[^ ]+) was (?P<next>{NUMBER})",
+    "no_item": f"returned (?P<item>{NUMBER}), but no item was left in (?P<B>[^ ]+)",
+    "no_room": f"put (?P<item>{NUMBER}) in, but no room was left in (?P<B>[^ ]+)",
+    "needed_put": f"gave up on (?P<item>{NUMBER}), but a consume had returned it",
+    "needed_take": "gave up, but there was room in (?P<B>[^ ]+) only if it took an item",
+}
 
 
 class WatchClaim(Claim):
@@ -50,9 +59,55 @@ class WatchClaim(Claim):
         units = self.part.start[name] + givers(self.calls, name, at)
         need(taken > units, "a unit was left")
 
+    # Buffers with one producer and one consumer
+
+    def of_pair(self, words, name, *replies):
+        """Checks that the line is of a response of this call with such a reply, and returns the items that were put in, or
+        may have been, and those that were returned."""
+        self.own("buffer", words.groupdict().get("B"))
+        need(is_pair(self.history, self.part.key), "there is another producer or consumer")
+        op, reply = self.call.op, self.call.reply
+        need(op[0] == name, f"the line is of no {name}")
+        need(reply in replies if replies else isinstance(reply, int), f"it returned {reply}")
+        item = words.groupdict().get("item")
+        right = op[1] if name == "produce" else reply
+        need(item in (None, str(right)), f"its item is {right}")
+        return items_of_pair(self.calls)
+
+    def not_next(self, words):
+        put, taken = self.of_pair(words, "consume")
+        place = len(taken) - 1
+        need(place < len(put), "no item was left")
+        need(int(words["next"]) == put[place], f"the next item was {put[place]}")
+        need(put[place] != taken[place], "it returned the next item")
+
+    def no_item(self, words):
+        put, taken = self.of_pair(words, "consume")
+        need(len(put) < len(taken), "an item was left")
+
+    def is_overfull(self, taken):
+        """Returns whether more items were put in than there is room for and consumes may have taken."""
+        put = self.puts(lambda item: True, lambda one: one.reply == "done")
+        return put > self.room() + len(taken) + self.pending_takes(self.at)
+
+    def no_room(self, words):
+        _, taken = self.of_pair(words, "produce", "done")
+        need(self.is_overfull(taken), "there was room")
+
+    def needed_put(self, words):
+        # (a call that gave up is not among those that put an item in)
+        put, taken = self.of_pair(words, "produce", "timeout")
+        need(len(put) < len(taken), "no consume had returned it")
+        need(taken[len(put)] == self.call.op[1], "that consume had returned another item")
+
+    def needed_take(self, words):
+        _, taken = self.of_pair(words, "consume", "timeout")
+        need(self.is_overfull(taken), "there was room")
+
 
 FORMS = {"sure": SURE, "unordered": UNORDERED, "no_unit": NO_UNIT}
 FORMS |= {name: re.compile(NOTES[name]) for name in ("few", "below")}
+FORMS |= {name: re.compile(text) for name, text in OF_PAIRS.items()}
 
 
 def claim_faults(history, position, note):
@@ -73,21 +128,32 @@ def claim_faults(history, position, note):
     return None
 
 
+def is_judged_at_once(history, call):
+    """Returns whether the events of this call are judged when their lines come: it is of no cell, no database, and no
+    buffer with several producers or consumers."""
+    if call.op[0] in ("produce", "consume"):
+        return is_pair(history, call.object)
+    return call.op[0] not in ("put", "get")
+
+
 def calls_cells(history):
-    """Returns whether the history calls a cell, a database or a buffer."""
+    """Returns whether the history has calls that are judged at its end."""
     return first_of_cells(history) < history.events
 
 
 def first_of_cells(history):
-    """Returns the position of the first call of a cell, a database or a buffer, or that after the last event."""
-    ops = "put", "get", "produce", "consume"
-    return min((call.first for call in history.calls if call.op[0] in ops), default=history.events)
+    """Returns the position of the first call that is judged at the end, or that after the last event."""
+    found = (call.first for call in history.calls if not is_judged_at_once(history, call))
+    return min(found, default=history.events)
 
 
 def refused_at(history):
     """Returns the position of the first event that is refused when its line comes, or None."""
-    end = first_of_cells(history)
-    faults = [fault_by_theorem(part.cut(end)) for part in history.parts() if part.kind not in ("cell", "buffer")]
+    end, faults = first_of_cells(history), []
+    for part in history.parts():
+        if is_judged_at_once(history, part.calls[0]):
+            fault_of = fault_of_pair if part.kind == "buffer" else fault_by_theorem
+            faults.append(fault_of(part.cut(end)))
     return min((it for it in faults if it is not None), default=None)
 
 
@@ -106,8 +172,8 @@ def overlaps(history):
 
 
 class Watched:
-    """What `watch` has to do with a text. `checked` is the result of `check`: a history with calls of cells, databases
-    or buffers has to end both in the same way."""
+    """What `watch` has to do with a text. `checked` is the result of `check`: a history that is judged at its end has to
+    end both in the same way."""
 
     def __init__(self, text, checked):
         self.whole, self.fault, number = scan(text)

@@ -138,14 +138,14 @@ def is_open(kind, events, k):
     return overlap and any(times(v) > 1 for v in got)
 
 
-def watched_fault(kinds, events):
-    """Returns the position of the first event with which the objects that a monitor watches have no linearization, or
-    None."""
-    busy, own = {}, []
-    for at, (worker, what, *rest) in enumerate(events):
-        if what == "calls":
-            busy[worker] = rest[0]
-        if kinds[busy[worker]][0] not in ("cell", "database", "buffer"):
-            own.append(at)
-    fault = first_fault(kinds, [events[at] for at in own])
-    return None if fault is None else own[fault]
+def monitor_stop(kinds, events):
+    """Returns the position at which a monitor stops: that of the first call of an object that it doesn't watch, or of an
+    event before it with which the history has no linearization; or None."""
+    unwatched = (
+        at
+        for at, (_, what, *rest) in enumerate(events)
+        if what == "calls" and kinds[rest[0]][0] in ("cell", "database", "buffer")
+    )
+    end = next(unwatched, None)
+    fault = first_fault(kinds, events[:end])
+    return end if fault is None else fault

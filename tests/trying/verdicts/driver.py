@@ -5,7 +5,7 @@ import sys
 
 from trying.counting import Count
 from trying.running import run
-from trying.verdicts.brute import Calls, first_fault, first_state, is_open, step, watched_fault
+from trying.verdicts.brute import Calls, first_fault, first_state, is_open, monitor_stop, step
 from trying.verdicts.buffers import undecided_faults
 from trying.verdicts.certificates import certificate_faults
 
@@ -79,9 +79,9 @@ def compare(kinds, events, verdict, stopped):
     name, rest = verdict
     parts = range(len(kinds))
     fault = first_fault(kinds, events)
-    watched = watched_fault(kinds, events)
-    if stopped != watched:
-        return f"the monitor stopped at {stopped}, and the first fault that it can see is {watched}"
+    right = monitor_stop(kinds, events)
+    if stopped != right:
+        return f"the monitor stopped at {stopped}, and should at {right}"
     if name == "linearizable":
         if fault is not None:
             return f"linearizable, but it has none with event {fault}"
@@ -107,9 +107,9 @@ def answer(driver, mode, text):
     return output.decode()
 
 
-def stops_of(driver, text):
+def stops_of(driver, text, mode="monitor"):
     """Returns for each history where the monitor stops, or None."""
-    return [None if word == "-" else int(word) for word in answer(driver, "monitor", text).split()]
+    return [None if word == "-" else int(word) for word in answer(driver, mode, text).split()]
 
 
 def try_histories(driver, name, histories, most=None):
@@ -127,3 +127,16 @@ def try_histories(driver, name, histories, most=None):
     if most is not None:
         part.add("undecided", None if unclear <= most else f"{unclear} are, instead of {most}")
     return part.end(f", {unclear} undecided" if unclear else "")
+
+
+def try_spsc(driver, name, histories):
+    """Compares where the monitor of a buffer with one producer and one consumer stops with a search."""
+    part, batch = Count(name), list(histories)
+    stops = stops_of(driver, "".join(text_of(kinds, events) for kinds, events in batch), "spsc")
+    if len(stops) != len(batch):
+        sys.exit("run-calls: another number of stops than of histories")
+    for (kinds, events), stopped in zip(batch, stops):
+        fault = first_fault(kinds, events)
+        what = None if stopped == fault else f"the monitor stopped at {stopped}, and the first fault is {fault}"
+        part.add("a history", what and f"{what}\n{text_of(kinds, events)}")
+    return part.end()

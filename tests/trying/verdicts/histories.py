@@ -142,6 +142,23 @@ def histories_in_turn(seed, count):
         yield kinds, swapped(rng, events) if rng.random() < 0.5 else events
 
 
+def histories_of_two(seed, count):
+    """Yields histories of a buffer with one producer and one consumer, whose replies are by chance."""
+    rng = random.Random(seed)
+    for _ in range(count):
+        kind, busy, events = ["buffer", rng.choice([1, 1, 2, 3])], set(), []
+        for _ in range(rng.randint(2, 12)):
+            worker = rng.choice("01")
+            if worker not in busy:
+                busy.add(worker)
+                events.append((worker, "calls", 0, ["produce", rng.choice([1, 2])] if worker == "0" else ["consume"]))
+            else:
+                busy.remove(worker)
+                replies = ["done", "done", "done", "timeout"] if worker == "0" else [1, 1, 2, 2, "timeout"]
+                events.append((worker, "returns", rng.choice(replies)))
+        yield [kind], events
+
+
 def long_history(rng, kind, count, workers):
     """Returns a history of many calls of one object, as text, from a simulation of it."""
     sort = kind[0]

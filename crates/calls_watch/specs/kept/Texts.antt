@@ -1,11 +1,13 @@
 -- The text of a history that may have to be decided at its end.
-use Rattle.std.specs.Prelude.{◌≡◌, ◌≢◌, ◌<◌, ◌||◌, nat_lt, ℕ, List, [], ◌∷◌, ◌++◌, length, Bool, true, false}
+use Rattle.std.specs.Prelude.{◌≡◌, ◌≢◌, ◌<◌, ◌||◌, nat_lt, ℕ, ◌+◌, List, [], ◌∷◌, ◌++◌, length, not}
+use Rattle.std.specs.Prelude.{Bool, true, false}
 use Rattle.std.specs.Prelude.{Result, Ok, Err}
 use Rattle.std.specs.List.{All}
 use Rattle.std.specs.Borrow.{Bor}
 use Rattle.ec_heading.specs.Spelling.{lines_text}
 use Rattle.calls_core.specs.declared.history.Kind.{Kind}
 use Rattle.calls_core.specs.declared.history.Kind.TheVariants.{Cell, Database, Buffer}
+use Rattle.calls_monitor.specs.Watched.{is_listed}
 use Rattle.calls_verdict.specs.declared.verdict.Verdict.{Verdict}
 use Rattle.calls_verdict.specs.declared.verdict.Verdict.TheVariants as verdicts
 use Rattle.calls_text.specs.Recordings.{RecordingModel}
@@ -21,17 +23,19 @@ use Rattle.calls_watch.specs.declared.whole.DecidedHistory.{DecidedHistory}
 
 -- WHETHER IT IS NEEDED
 
--- whether an object is a cell, a database or a buffer
-abbrev pub is_cells : Kind → Bool
-is_cells Cell = true
-is_cells (Database n) = nat_lt 0 n
-is_cells (Buffer n) = true
-is_cells _ = false
+-- whether calls of an object of this kind are only decided at the end of the history; of a buffer it
+-- matters whether it has one producer and one consumer
+abbrev pub is_unwatched : Bool → Kind → Bool
+is_unwatched spsc Cell = true
+is_unwatched spsc (Database n) = nat_lt 0 n
+is_unwatched spsc (Buffer n) = not spsc
+is_unwatched spsc _ = false
 
--- whether one of them is
-abbrev pub declares_cells : List Kind → Bool
-declares_cells [] = false
-declares_cells (k ∷ ks) = is_cells k || declares_cells ks
+-- whether one of these objects is so, the first of which has the index k
+abbrev pub declares_unwatched : List ℕ → ℕ → List Kind → Bool
+declares_unwatched spsc k [] = false
+declares_unwatched spsc k (kind ∷ kinds) =
+    is_unwatched (is_listed k spsc) kind || declares_unwatched spsc (k + 1) kinds
 
 -- ITS LINES
 

@@ -4,7 +4,6 @@ use Rattle.std.specs.Prelude.{Result, Ok, Err, Bool, false, if◌then◌else◌,
 use Rattle.std.specs.Global.{Vec}
 use Rattle.std.specs.List.{All}
 use Rattle.calls_core.specs.declared.history.Kind.{Kind}
-use Rattle.calls_core.specs.declared.history.Action.{Action}
 use Rattle.calls_core.specs.declared.history.Event.{Event}
 use Rattle.calls_core.specs.Histories.{IsHistory, clock, pending_calls}
 use Rattle.calls_core.specs.Completions.{IsLinearizable}
@@ -34,8 +33,8 @@ use Rattle.calls_watch.specs.declared.stop.Stop.TheVariants as stops
 use Rattle.calls_watch.specs.declared.watcher.Watcher.{Watcher}
 use Rattle.calls_watch.specs.declared.whole.DecidedHistory.{DecidedHistory}
 use Rattle.calls_watch.specs.Loads.{IsLoad, invocation_count, others_at}
-use Rattle.calls_watch.specs.Watches.{AreGood, IsStopped, HasCells, AreWatched, CallsCells}
-use Rattle.calls_watch.specs.Watches.{invokes_cells}
+use Rattle.calls_watch.specs.Spsc.{AreListed}
+use Rattle.calls_watch.specs.Watches.{AreGood, IsStopped, HasCalls, AreWatched, CallsUnwatched}
 use Rattle.calls_watch.specs.kept.Texts.{HoldsText, DecidesText, outcome_of}
 
 -- ONE HISTORY
@@ -44,18 +43,20 @@ use Rattle.calls_watch.specs.kept.Texts.{HoldsText, DecidesText, outcome_of}
 pub record IsMonitoring (r : RecordingModel) (events : List Event) (m : Monitor) : Type 0 where
   pub kinds : List Kind
   pub are : AreKinds r.heading r.from kinds
-  pub watched : AreWatched (reverse events)
+  pub spsc : List ℕ
+  pub listed : AreListed r.heading spsc
+  pub watched : AreWatched r.heading (reverse events)
   pub linearizable : IsLinearizable kinds (reverse events)
   pub history : IsHistory kinds (reverse events)
   pub positions : clock (reverse events) ≡ length events
-  pub watches : monitors.Watches kinds (reverse events) m
+  pub watches : monitors.Watches kinds spsc (reverse events) m
 
--- these events, among them a call of a cell, a database or a buffer, are a history of the objects
--- that are declared
+-- these events, among them a call of an object that is not watched, are a history of the objects that
+-- are declared
 pub record IsReading (r : RecordingModel) (events : List Event) : Type 0 where
   pub kinds : List Kind
   pub are : AreKinds r.heading r.from kinds
-  pub cells : AreWatched (reverse events) → ⊥
+  pub unwatched : AreWatched r.heading (reverse events) → ⊥
   pub history : IsHistory kinds (reverse events)
   pub positions : clock (reverse events) ≡ length events
 
@@ -68,7 +69,7 @@ IsMonitored _ events m = Unit {0}
 -- THE TEXT
 
 -- ps are the parts of a text, and qs those that are left. Before them came linearizable histories,
--- and a prefix of one more, which is linearizable, or calls a cell, a database or a buffer
+-- and a prefix of one more, which is linearizable, or calls an object that is not watched
 pub record IsWatching (ps qs : List (List ℕ)) (w : Watcher) : Type 0 where
   pub reads : List OneRead
   pub start : ℕ
@@ -83,14 +84,14 @@ pub record IsWatching (ps qs : List (List ℕ)) (w : Watcher) : Type 0 where
   pub first : w.first ≡ start
   pub kept : HoldsText reached.lines w.kept
 
--- the history that was decided at its end, from line n on, calls a cell, a database or a buffer
+-- the history that was decided at its end, from line n on, calls an object that is not watched
 pub record IsDecided (n : ℕ) (ps : List (List ℕ)) (w : Watcher) : Type 0 where
   pub decided : DecidedHistory
   pub is : w.decided ≡ Some decided
   pub rest : List (List ℕ)
   pub reads : parse_from n Opening ps
       ≡ Ok (record { recorded = decided.read.recording; number = decided.read.number; rest = rest })
-  pub cells : CallsCells decided.read.recording
+  pub unwatched : CallsUnwatched decided.read.recording
 
 -- why the text is not watched further, from line n on, if the parts are these
 abbrev pub StopsAt : Stop → ℕ → List (List ℕ) → Watcher → Type 0
@@ -105,7 +106,7 @@ StopsAt stops.NotDecided n ps w =
     (d : IsDecided n ps w) × (u : Undecided) × (d.decided.verdict ≡ verdicts.NotDecided u)
     × checks.IsUndecided d.decided.read.recording u
 StopsAt stops.TooLarge n ps w =
-    (c : HasCells n ps) × (TEXT_MAX < length (lines_text c.reached.lines))
+    (c : HasCalls CallsUnwatched n ps) × (TEXT_MAX < length (lines_text c.reached.lines))
 StopsAt stops.Memory n ps w = Unit {0}
 
 pub record Stops (stop : Stop) (ps : List (List ℕ)) (w : Watcher) : Type 0 where
@@ -152,7 +153,20 @@ EndsAs (Err stop) ps w = Stops stop ps w
 pub record IsOpened (r : RecordingModel) (m : Monitor) : Type 0 where
   pub kinds : List Kind
   pub are : AreKinds r.heading r.from kinds
-  pub watches : monitors.Watches kinds [] m
+  pub spsc : List ℕ
+  pub listed : AreListed r.heading spsc
+  pub watches : monitors.Watches kinds spsc [] m
+
+-- the text has to be kept
+abbrev pub NeedsText : Kept → Result (Unit {0}) Stop → Type 0
+NeedsText k (Ok u) = Unit {0}
+NeedsText k (Err stops.TooLarge) = k ≡ TooLong
+NeedsText k (Err stops.Memory) = Unit {0}
+NeedsText k (Err _) = ⊥
+
+-- the event is not one for the monitor
+abbrev pub IsPassedOver : Monitor → Event → Type 0
+IsPassedOver m x = (n : Monitor) × Judges m n x (Err rejections.Unwatched)
 
 -- the event was judged by a monitor
 abbrev pub IsJudged : Monitor → Event → Option Monitor → Result (Unit {0}) Stop → Type 0
@@ -162,21 +176,15 @@ IsJudged m x new (Err (stops.Refused y report)) =
 IsJudged m x new (Err stops.Memory) = Unit {0}
 IsJudged m x new (Err _) = ⊥
 
--- without a monitor the text has to be kept
-abbrev pub IsLeft : Kept → Option Monitor → Result (Unit {0}) Stop → Type 0
-IsLeft k new (Ok u) = new ≡ None
-IsLeft k new (Err stops.TooLarge) = k ≡ TooLong
-IsLeft k new (Err stops.Memory) = Unit {0}
-IsLeft k new (Err _) = ⊥
+-- the event was not judged
+abbrev pub IsUnjudged : Kept → Option Monitor → Result (Unit {0}) Stop → Type 0
+IsUnjudged k new result = NeedsText k result × (new ≡ None)
 
 abbrev pub JudgedBy : Option Monitor → Kept → Event → Option Monitor → Result (Unit {0}) Stop
     → Type 0
-JudgedBy (Some m) k x new result = IsJudged m x new result
-JudgedBy None k x new result = IsLeft k new result
-
--- the monitor for an event: none from the first call of a cell, a database or a buffer on
-abbrev pub monitor_at : Action → Option Monitor → Option Monitor
-monitor_at a m = if invokes_cells a then None else m
+JudgedBy (Some m) k x new result =
+    IsJudged m x new result ⊎ (IsPassedOver m x × IsUnjudged k new result)
+JudgedBy None k x new result = IsUnjudged k new result
 
 -- a load after an event, after which so many calls are pending
 pub record IsLoadAfter (old : Load) (x : Event) (pending : ℕ) (new : Load) : Type 0 where
@@ -213,10 +221,6 @@ IsTaken m x old new (Ok u) =
     JudgedBy m old.kept x new.monitor (Ok u) × LoadGrows old x new × KeepsText old new
 IsTaken m x old new (Err stop) =
     (JudgedBy m old.kept x new.monitor (Err stop) × KeepsText old new) ⊎ (stop ≡ stops.Memory)
-
-abbrev pub IsEventTaken : Option Monitor → Event → Watcher → Watcher → Result (Unit {0}) Stop
-    → Type 0
-IsEventTaken m x old new result = IsTaken (monitor_at x.action m) x old new result
 
 -- a history has ended, and the next may begin
 pub record IsNext (old new : Watcher) : Type 0 where
@@ -264,7 +268,7 @@ GoesOnBy lines.Heading old new (Ok u) = new ≡ old
 GoesOnBy lines.Heading old new (Err stop) = ⊥
 GoesOnBy lines.Run old new result =
     (r : RecordingModel) → stage_with_events [] old.follower ≡ Running r → Begins r old new result
-GoesOnBy (lines.Event x) old new result = IsEventTaken old.monitor x old new result
+GoesOnBy (lines.Event x) old new result = IsTaken old.monitor x old new result
 GoesOnBy lines.End old new result = EndsHistory old.monitor old new result
 
 -- PIECES

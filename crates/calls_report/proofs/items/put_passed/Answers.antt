@@ -6,8 +6,4 @@ returns g c =
     puts_then _ _ _ _ _
     (puts_then _ _ _ _ _
     (puts_then _ _ _ _ _
-    (puts_then _ _ _ _ _
-    (puts_then _ _ _ _ _
-    (puts_then _ _ _ _ _
-    (puts_then _ _ _ _ _
-    (puts_then _ _ _ _ _ c.put_by_line.ensures c.put_some.ensures) c.put.ensures.puts) c.put_consumed.ensures) c.put-2.ensures.puts) c.put_line.ensures) c.put-3.ensures.puts) c.put_number.ensures.puts) c.put-4.ensures.puts
+    (puts_then _ _ _ _ _ c.put_earlier.ensures c.put_returned_item.ensures) c.put_unmade.ensures) c.put_untaken.ensures) c.put_any_pending.ensures

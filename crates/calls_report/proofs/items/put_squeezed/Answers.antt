@@ -8,7 +8,4 @@ returns g c =
     (puts_then _ _ _ _ _
     (puts_then _ _ _ _ _
     (puts_then _ _ _ _ _
-    (puts_then _ _ _ _ _
-    (puts_then _ _ _ _ _
-    (puts_then _ _ _ _ _
-    (puts_then _ _ _ _ _ c.put_by_line.ensures c.put_some.ensures) c.put.ensures.puts) c.put_line.ensures) c.put-2.ensures.puts) c.put_pending.ensures) c.put-3.ensures.puts) c.put_produced.ensures) c.put-4.ensures.puts) c.put_line-2.ensures
+    (puts_then _ _ _ _ _ c.put_by_line.ensures c.put_untaken.ensures) c.put_pending.ensures) c.put.ensures.puts) c.put_produced.ensures) c.put-2.ensures.puts) c.put_line.ensures

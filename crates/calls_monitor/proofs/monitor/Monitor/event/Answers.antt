@@ -7,20 +7,20 @@ use Rattle.calls_monitor.proofs.Judging.{below_by, invoked, nobody, responded}
 use Rattle.calls_monitor.proofs.monitor.Monitor.event.Goals as goal
 
 pub returns-in_default : goal.returns-in_default
-returns-in_default c = λ kinds past h w.
-    absurd (nobody kinds past c.args.event h (omega arith) c.args.self.now w
+returns-in_default c = λ kinds spsc past h one_each w.
+    absurd (nobody kinds spsc past c.args.event h one_each (omega arith) c.args.self.now w
     (subst (λ ps. length ps ≤ WORKERS) c.as_slice.ensures.value c.as_slice.ensures.fits)
     c.in-Respond._reply c.in-Respond.is
     (subst (λ ps. pending_of c.args.event.worker ps ≡ None) c.as_slice.ensures.value
     c.in_default.ensures))
 
 pub returns-else-is_full : goal.returns-else-is_full
-returns-else-is_full c = λ kinds past h w.
+returns-else-is_full c = λ kinds spsc past h one_each w.
     (let old = c.args.self.now in
     let apart : length old.pending.items ≡ WORKERS → ⊥ =
     eqb-false (length old.pending.items) WORKERS
     (sym c.if-is_full.ensures.value) in
-    invoked kinds past c.args.event h (omega arith) old w (omega (arith, c.if-is_full.ensures.fits))
+    invoked kinds spsc past c.args.event h one_each (omega arith) old w (omega (arith, c.if-is_full.ensures.fits))
     c.in-Invoke.object c.in-Invoke.op c.in-Invoke.is
     (below_by (length old.pending.items) WORKERS c.if-is_full.ensures.fits apart) c.pass_to_object.new.self
     (ap (λ ps. ps.items) c.pass_to_object.ensures.pending
@@ -29,9 +29,9 @@ returns-else-is_full c = λ kinds past h w.
     c.pass_to_object.ensures.passed)
 
 pub returns-in-Some : goal.returns-in-Some
-returns-in-Some c = λ kinds past h w.
+returns-in-Some c = λ kinds spsc past h one_each w.
     (let old = c.args.self.now in
-    responded kinds past c.args.event h (omega arith) old w
+    responded kinds spsc past c.args.event h one_each (omega arith) old w
     (subst (λ ps. length ps ≤ WORKERS) c.as_slice.ensures.value c.as_slice.ensures.fits)
     c.in-Respond._reply c.in-Respond.is c.in-Some.i c.remove-object.result
     (subst (λ ps. IsPendingOf ps c.args.event.worker c.in-Some.i) c.as_slice.ensures.value

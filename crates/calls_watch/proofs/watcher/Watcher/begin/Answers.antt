@@ -1,19 +1,28 @@
-use Rattle.std.proofs.Common.{[], refl, sym, ◌∙◌}
+use Rattle.std.proofs.Common.{ℕ, List, [], refl, sym, ◌∙◌, subst}
+use Rattle.ec_heading.specs.HeadingModel.{HeadingModel}
+use Rattle.calls_monitor.specs.kept.Watching as monitors
+use Rattle.calls_watch.specs.Spsc.{AreListed}
 use Rattle.calls_watch.proofs.LineLemmas.{opened_same}
 use Rattle.calls_watch.proofs.watcher.Watcher.begin.Goals as goal
 
 pub returns : goal.returns
 returns c = λ r is. (
-  c.in-Ok.monitor,
+  c.in-Ok-open.monitor,
   refl,
-  opened_same c.in-Some.recording.now r c.in-Ok.monitor (sym (c.in-Some.ensures []) ∙ is) (record {
-    kinds = c.kinds-2.result.now;
-    are = c.kinds-2.ensures.objects;
-    watches = c.in-Ok.ensures;
-  }),
+  opened_same c.in-Some.recording.now r c.in-Ok-open.monitor (sym (c.in-Some.ensures []) ∙ is)
+      (record {
+        kinds = c.kinds-2.result.now;
+        are = c.kinds-2.ensures.objects;
+        spsc = c.in-Ok.spsc.items;
+        listed = subst (λ (h : HeadingModel). AreListed h c.in-Ok.spsc.items) c.heading.ensures
+            c.in-Ok.ensures;
+        watches = subst (λ (ks : List ℕ).
+            monitors.Watches c.kinds-2.result.now ks [] c.in-Ok-open.monitor)
+            c.deref-2.ensures.value c.in-Ok-open.ensures;
+      }),
   refl,
   refl,
   refl,
   refl,
-  (c.declares_cells-needed.result, c.keep_if.ensures),
+  (c.declares_unwatched-needed.result, c.keep_if.ensures),
 )

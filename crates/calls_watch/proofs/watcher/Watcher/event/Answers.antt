@@ -1,7 +1,5 @@
-use Rattle.std.proofs.Common.{Option, Ok, refl, subst}
-use Rattle.calls_monitor.specs.declared.monitor.Monitor.{Monitor}
+use Rattle.std.proofs.Common.{refl}
 use Rattle.calls_watch.specs.declared.watcher.Watcher.{Watcher}
-use Rattle.calls_watch.specs.kept.Watching.{JudgedBy}
 use Rattle.calls_watch.proofs.LineLemmas.{event_done}
 use Rattle.calls_watch.proofs.watcher.Watcher.event.Goals as goal
 
@@ -12,9 +10,7 @@ returns c =
       load = c.add_event.new.self;
     } in
     event_done c.args.self.now.monitor c.args.event c.args.self.now new c.pending.result
-    c.add_event.result
-    (subst (λ (o : Option Monitor). JudgedBy o c.args.self.now.kept c.args.event c.judge.new.monitor
-    (Ok tt)) c.drop_monitor.ensures c.in_ok-judge.ensures)
+    c.add_event.result c.in_ok-judge.ensures
     (record { follower = refl; number = refl; first = refl; kept = refl })
     c.pending.ensures c.add_event.ensures.calls
     c.add_event.ensures.others c.add_event.ensures.histories c.add_event.ensures.err

@@ -1,0 +1,9 @@
+use Rattle.ec_text.proofs.shared.PutLemmas.{puts_then}
+use Rattle.calls_report.proofs.items.put_unmade.Goals as goal
+
+pub returns : goal.returns
+returns g c =
+    puts_then _ _ _ _ _
+    (puts_then _ _ _ _ _
+    (puts_then _ _ _ _ _
+    (puts_then _ _ _ _ _ c.put.ensures.puts c.put_line.ensures) c.put-2.ensures.puts) c.put_consumed.ensures) c.put-3.ensures.puts

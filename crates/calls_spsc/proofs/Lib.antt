@@ -1,0 +1,11 @@
+pub mod Ordering
+pub mod Turns
+pub mod OneOrder
+pub mod Necessity
+pub mod Ending
+pub mod Adding
+pub mod Stepping
+pub mod Refusing
+pub mod Judging
+pub mod Answering
+pub mod Sufficiency

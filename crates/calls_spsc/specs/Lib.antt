@@ -1,0 +1,4 @@
+pub mod Flows
+pub mod Laws
+pub mod Monitors
+pub mod kept
