@@ -1,5 +1,5 @@
 //! Judges the histories of a text line by line.
-ghost use Rattle.std.specs.Prelude.{◌≡◌, ◌<◌, ◌+◌, ◌^◌, ◌∷◌, [], List, ℕ, Some, length, true, false};
+ghost use Rattle.std.specs.Prelude.{◌≡◌, ◌<◌, ◌∷◌, [], List, ℕ, Some, length, true, false};
 ghost use Rattle.calls_core.specs.declared.history.Event.{Event};
 ghost use Rattle.calls_core.specs.Histories.{pending_calls};
 ghost use Rattle.calls_monitor.specs.declared.monitor.Monitor.{Monitor};
@@ -7,7 +7,6 @@ ghost use Rattle.calls_text.specs.Outcomes.{lines_of_text};
 ghost use Rattle.calls_text.specs.Reading.{Running};
 ghost use Rattle.calls_text.specs.Recordings.{RecordingModel};
 ghost use Rattle.calls_text.specs.Following.{stage_with_events, HasEvents};
-ghost use Rattle.calls_watch.specs.kept.Texts.{is_unwatched, declares_unwatched};
 ghost use Rattle.calls_watch.specs.kept.Watching.{IsWatching, StateAfterLine, EndsAs, Stops, JudgedBy};
 ghost use Rattle.calls_watch.specs.kept.Watching.{Begins, IsTaken, Decides, DecidesUnjudged};
 ghost use Rattle.calls_watch.specs.kept.Watching.{IsBegunAgain, EndsHistory, GoesOnBy, MayEnd, GoesOnAt};
@@ -15,10 +14,10 @@ ghost use Rattle.calls_watch.specs.kept.Watching.{NeedsText};
 
 use crate::kept::Kept;
 use crate::load::Load;
-use crate::spsc::spsc_buffers;
+use crate::spsc::{needs_text, spsc_buffers};
 use crate::stop::Stop;
 use crate::whole::{DecidedHistory, decide_text, outcome_of};
-use calls_core::{Event, Kind};
+use calls_core::Event;
 use calls_monitor::{Monitor, Rejection};
 use calls_text::{Follower, HistoryLine};
 use std::alloc::Global;
@@ -42,34 +41,6 @@ pub struct Watcher {
     pub(crate) kept: Kept,
     /// The last history that was decided at its end.
     pub(crate) decided: Option<DecidedHistory>,
-}
-
-/// Returns whether calls of an object of this kind are only decided at the end of the history.
-///
-/// `is_spsc` says whether it is a buffer with one producer and one consumer. A semaphore counts as a
-/// database without cells, and is not meant.
-fn is_unwatched(is_spsc: bool, kind: &Kind) -> bool
-    ensures { result ≡ is_unwatched is_spsc kind.now }
-{
-    match kind {
-        Kind::Cell => true,
-        Kind::Database(cells) => *cells > 0,
-        Kind::Buffer(_) => !is_spsc,
-        Kind::Eventcount(_) | Kind::Sequencer | Kind::Semaphores(_) => false,
-    }
-}
-
-/// Returns whether one of these objects is so, the first of which has the index `object`.
-fn declares_unwatched(spsc: &[usize], object: usize, kinds: &[Kind]) -> bool
-    requires { object + length kinds.now < 2 ^ 64 }
-    ensures { result ≡ declares_unwatched spsc.now object kinds.now }
-{
-    match kinds {
-        [] => false,
-        [kind, rest @ ..] => {
-            is_unwatched(spsc.contains(&object), kind) || declares_unwatched(spsc, object + 1, rest)
-        }
-    }
 }
 
 /// Returns an error if the text is not kept, and so cannot be decided at the end of the history.
@@ -136,7 +107,7 @@ impl Watcher {
         let Ok(spsc) = spsc_buffers(alloc, recording.heading()) else {
             return Err(Stop::Memory);
         };
-        let needed = declares_unwatched(&spsc, 0, recording.kinds());
+        let needed = needs_text(recording.heading());
         let Ok(monitor) = Monitor::open(alloc, recording.kinds(), &spsc) else {
             return Err(Stop::Memory);
         };

@@ -1,13 +1,18 @@
 -- The text of a history that may have to be decided at its end.
-use Rattle.std.specs.Prelude.{◌≡◌, ◌≢◌, ◌<◌, ◌||◌, nat_lt, ℕ, ◌+◌, List, [], ◌∷◌, ◌++◌, length, not}
+use Rattle.std.specs.Prelude.{◌≡◌, ◌≢◌, ◌<◌, ◌||◌, ℕ, List, [], ◌∷◌, ◌++◌, length, not, slice_get}
 use Rattle.std.specs.Prelude.{Bool, true, false}
 use Rattle.std.specs.Prelude.{Result, Ok, Err}
 use Rattle.std.specs.List.{All}
 use Rattle.std.specs.Borrow.{Bor}
 use Rattle.ec_heading.specs.Spelling.{lines_text}
-use Rattle.calls_core.specs.declared.history.Kind.{Kind}
-use Rattle.calls_core.specs.declared.history.Kind.TheVariants.{Cell, Database, Buffer}
-use Rattle.calls_monitor.specs.Watched.{is_listed}
+use Rattle.std.specs.Option.{option_map_or}
+use Rattle.ec_count.specs.Tables.{Tables}
+use Rattle.ec_count.specs.declared.target.Target.{Target}
+use Rattle.ec_count.specs.declared.target.Target.TheVariants.{Cells, Group as GroupTarget}
+use Rattle.ec_heading.specs.HeadingModel.{HeadingModel}
+use Rattle.ec_heading.specs.declared.group.Group.{Group}
+use Rattle.ec_heading.specs.declared.group.Group.TheVariants as groups
+use Rattle.calls_watch.specs.Spsc.{is_spsc_group}
 use Rattle.calls_verdict.specs.declared.verdict.Verdict.{Verdict}
 use Rattle.calls_verdict.specs.declared.verdict.Verdict.TheVariants as verdicts
 use Rattle.calls_text.specs.Recordings.{RecordingModel}
@@ -23,19 +28,23 @@ use Rattle.calls_watch.specs.declared.whole.DecidedHistory.{DecidedHistory}
 
 -- WHETHER IT IS NEEDED
 
--- whether calls of an object of this kind are only decided at the end of the history; of a buffer it
--- matters whether it has one producer and one consumer
-abbrev pub is_unwatched : Bool → Kind → Bool
-is_unwatched spsc Cell = true
-is_unwatched spsc (Database n) = nat_lt 0 n
-is_unwatched spsc (Buffer n) = not spsc
-is_unwatched spsc _ = false
+-- whether calls of a group are only decided at the end of the history
+abbrev pub is_unwatched_group : Tables → Group → Bool
+is_unwatched_group t (groups.Database d) = true
+is_unwatched_group t (groups.Buffer b) = not (is_spsc_group t (groups.Buffer b))
+is_unwatched_group t _ = false
 
--- whether one of these objects is so, the first of which has the index k
-abbrev pub declares_unwatched : List ℕ → ℕ → List Kind → Bool
-declares_unwatched spsc k [] = false
-declares_unwatched spsc k (kind ∷ kinds) =
-    is_unwatched (is_listed k spsc) kind || declares_unwatched spsc (k + 1) kinds
+-- whether those of what is declared are
+abbrev pub is_unwatched : HeadingModel → Target → Bool
+is_unwatched h (Cells x n) = true
+is_unwatched h (GroupTarget i) =
+    option_map_or (is_unwatched_group h.setup) (slice_get h.groups i) false
+is_unwatched h _ = false
+
+-- whether one of these declarations is so
+abbrev pub declares_unwatched : HeadingModel → List Target → Bool
+declares_unwatched h [] = false
+declares_unwatched h (target ∷ targets) = is_unwatched h target || declares_unwatched h targets
 
 -- ITS LINES
 

@@ -11,18 +11,18 @@ returns c = λ r is. (
   refl,
   opened_same c.in-Some.recording.now r c.in-Ok-open.monitor (sym (c.in-Some.ensures []) ∙ is)
       (record {
-        kinds = c.kinds-2.result.now;
-        are = c.kinds-2.ensures.objects;
+        kinds = c.kinds.result.now;
+        are = c.kinds.ensures.objects;
         spsc = c.in-Ok.spsc.items;
         listed = subst (λ (h : HeadingModel). AreListed h c.in-Ok.spsc.items) c.heading.ensures
             c.in-Ok.ensures;
         watches = subst (λ (ks : List ℕ).
-            monitors.Watches c.kinds-2.result.now ks [] c.in-Ok-open.monitor)
-            c.deref-2.ensures.value c.in-Ok-open.ensures;
+            monitors.Watches c.kinds.result.now ks [] c.in-Ok-open.monitor)
+            c.deref.ensures.value c.in-Ok-open.ensures;
       }),
   refl,
   refl,
   refl,
   refl,
-  (c.declares_unwatched-needed.result, c.keep_if.ensures),
+  (c.needs_text-needed.result, c.keep_if.ensures),
 )

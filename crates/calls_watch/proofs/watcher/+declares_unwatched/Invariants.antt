@@ -1,5 +1,0 @@
-use Rattle.std.proofs.Common.{length}
-use Rattle.calls_watch.proofs.watcher.+declares_unwatched.Given as goal
-
-abbrev pub decreases-declares_unwatched : goal.decreases-declares_unwatched
-decreases-declares_unwatched l = length l.kinds.now
