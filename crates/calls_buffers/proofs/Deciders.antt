@@ -21,8 +21,7 @@ use Rattle.calls_core.specs.Calls.{Earlier, IsCallOf}
 use Rattle.calls_core.proofs.Positions.{are_calls_of}
 use Rattle.calls_core.proofs.Lists.{each_weaker, each_append, all_from_each, all_pairs_from_each}
 use Rattle.calls_core.proofs.Filters.{each_from_all}
-use Rattle.calls_buffers.specs.declared.ordering.Keyed.{Keyed}
-use Rattle.calls_buffers.specs.kept.Orders.{calls_in, answered_from, IsFound}
+use Rattle.calls_buffers.specs.kept.Orders.{answered_from, IsFound}
 use Rattle.calls_buffers.proofs.Runs.{IsBufferCall, is_run}
 use Rattle.calls_buffers.proofs.Tallies.{answered_each}
 
@@ -114,43 +113,25 @@ answered_more t answers k os d r lt e =
     ∙ answered_end t answers 0 k (take k os) (get_or os k d) (omega (arith, length-take k os))
     ∙ ap (λ q. answered_from t answers 0 (take k os) ++ answered_one t (get_or os k d) q) e
 
-pub calls_more : (list : List Keyed) (k : Keyed) → calls_in (list ++ k ∷ []) ≡ calls_in list
-    ++ k.call ∷ []
-calls_more list k = map-append (λ (x : Keyed). x.call) list (k ∷ [])
-
--- a sort moves the calls
-pub sorted_calls : (done : List Call) (first second third fourth : List Keyed) (more : List Call)
-    → first ≡ [] → calls_in second ≡ calls_in first ++ done
-    → calls_in third ≡ calls_in second ++ more → IsPermutation third fourth
-    → IsPermutation (done ++ more) (calls_in fourth)
-sorted_calls done first second third fourth more empty completed pending moved =
-    let none : calls_in second ≡ done =
-    completed ∙ ap (λ zs. calls_in zs ++ done) empty in
-    let all : calls_in third ≡ done ++ more = pending ∙ ap (λ zs. zs ++ more) none in
-    subst (λ zs. IsPermutation zs (calls_in fourth)) all
-    (IsPermutation-map (λ (x : Keyed). x.call) third fourth moved)
-
 -- one pending call more: without a reply, and with one
 pub answered_none : (t : ℕ) (answers : List (Option Reply)) (k : ℕ) (os : List PendingCall)
-    (d : PendingCall) (base old new : List Call) → k < length os → get_or answers k None ≡ None
-    → old ≡ base ++ answered_from t answers 0 (take k os) → new ≡ old
-    → new ≡ base ++ answered_from t answers 0 (take (k + 1) os)
-answered_none t answers k os d base old new lt e is same =
+    (d : PendingCall) (old new : List Call) → k < length os → get_or answers k None ≡ None
+    → old ≡ answered_from t answers 0 (take k os) → new ≡ old
+    → new ≡ answered_from t answers 0 (take (k + 1) os)
+answered_none t answers k os d old new lt e is same =
     let before = answered_from t answers 0 (take k os) in
     let after = answered_more t answers k os d None lt e in
-    same ∙ is ∙ ap (λ zs. base ++ zs) (sym (append-nil before) ∙ sym after)
+    same ∙ is ∙ sym (append-nil before) ∙ sym after
 
 pub answered_some : (t : ℕ) (answers : List (Option Reply)) (k : ℕ) (os : List PendingCall)
-    (d : PendingCall) (r : Reply) (base old new : List Call) → k < length os
-    → get_or answers k None ≡ Some r → old ≡ base ++ answered_from t answers 0 (take k os)
+    (d : PendingCall) (r : Reply) (old new : List Call) → k < length os
+    → get_or answers k None ≡ Some r → old ≡ answered_from t answers 0 (take k os)
     → new ≡ old ++ completion t r (get_or os k d) ∷ []
-    → new ≡ base ++ answered_from t answers 0 (take (k + 1) os)
-answered_some t answers k os d r base old new lt e is more =
-    let before = answered_from t answers 0 (take k os) in
+    → new ≡ answered_from t answers 0 (take (k + 1) os)
+answered_some t answers k os d r old new lt e is more =
     let own : List Call = completion t r (get_or os k d) ∷ [] in
     let after = answered_more t answers k os d (Some r) lt e in
-    more ∙ ap (λ zs. zs ++ own) is ∙ append_assoc base before own
-    ∙ ap (λ zs. base ++ zs) (sym after)
+    more ∙ ap (λ zs. zs ++ own) is ∙ sym after
 
 -- the same of the calls as they were listed
 pub order_of_found : (n t : ℕ) (past : List Event) (done : List Call) (pending : List PendingCall)

@@ -1,10 +1,12 @@
 -- Calls that are sorted by their places.
 use Rattle.std.proofs.Common.{◌≡◌, ℕ, suc, ◌+◌, ◌<◌, ◌≤◌, ◌==◌, inl, inr, Bool, true, false, cond}
-use Rattle.std.proofs.Common.{List, [], ◌∷◌, map, get_or, length, refl, ap, sym, ◌∙◌, subst, arith}
+use Rattle.std.proofs.Common.{List, [], ◌∷◌, ◌++◌, map, get_or, drop, length, refl, ap, sym, ◌∙◌}
+use Rattle.std.proofs.Common.{subst, arith}
 use Rattle.std.proofs.Common.{Ordering, Less, Equal, Greater}
 use Rattle.std.specs.Ordering.{is_lt, ordering_then, nat_cmp, bool_cmp}
 use Rattle.std.specs.List.Sorted.{IsSortedBy, IsPermutation}
 use Rattle.std.proofs.lemmas.Bool.{cases_lt, lt-ltb, le-ltb, eq-eqb}
+use Rattle.std.proofs.lemmas.List.{map-append}
 use Rattle.std.proofs.lemmas.List.Sorted.{All-permutation, IsPermutation-map}
 use Rattle.calls_core.specs.declared.history.Call.{Call}
 use Rattle.calls_core.specs.Lists.{Each, EachPair}
@@ -12,7 +14,8 @@ use Rattle.calls_core.proofs.Lists.{each_weaker, all_from_each}
 use Rattle.calls_core.proofs.Filters.{each_from_all}
 use Rattle.calls_buffers.specs.declared.ordering.Key.{Key}
 use Rattle.calls_buffers.specs.declared.ordering.Keyed.{Keyed}
-use Rattle.calls_buffers.specs.kept.Orders.{Places, key_of, with_key, calls_in, NoLater, Before}
+use Rattle.calls_buffers.specs.kept.Orders.{Places, key_of, keyed_call, with_key, calls_in}
+use Rattle.calls_buffers.specs.kept.Orders.{NoLater, Before}
 
 -- KEYS
 
@@ -117,13 +120,13 @@ chain (k ∷ l ∷ ks) h =
 
 module _ (f : Call → Key) where
   abbrev pub HasKey : Keyed → Type 0
-  HasKey k = k.key ≡ f k.call
+  HasKey k = k.key ≡ f k.call.now
 
   own_keys : (k : Keyed) (ks : List Keyed) → HasKey k → Each HasKey ks → Each (InOrder k) ks
-      → Each (Before f k.call) (calls_in ks)
+      → Each (Before f k.call.now) (calls_in ks)
   own_keys k [] h hs g = tt
   own_keys k (l ∷ ks) h hs g = (
-    subst (λ (x : Key). NoLater x (f l.call)) h (subst (λ (x : Key). NoLater k.key x) hs.0 g.0),
+    subst (λ (x : Key). NoLater x (f l.call.now)) h (subst (λ (x : Key). NoLater k.key x) hs.0 g.0),
     own_keys k ks h hs.1 g.1,
   )
 
@@ -133,27 +136,44 @@ module _ (f : Call → Key) where
   all_keys (k ∷ ks) h g = (own_keys k ks h.0 h.1 g.0, all_keys ks h.1 g.1)
 
 module _ (puts takes : Places) where
-  calls_keyed : (cs : List Call) → calls_in (map (with_key puts takes) cs) ≡ cs
-  calls_keyed [] = refl
-  calls_keyed (c ∷ cs) = ap (λ zs. c ∷ zs) (calls_keyed cs)
+  -- calls with their places
+  keyed : (ks : List Keyed) (cs : List Call) → map keyed_call ks ≡ map (with_key puts takes) cs
+      → (calls_in ks ≡ cs) × Each (HasKey (key_of puts takes)) ks
+  keyed [] [] e = (refl, tt)
+  keyed [] (c ∷ cs) e = absurd (cc)
+  keyed (k ∷ ks) [] e = absurd (cc)
+  keyed (k ∷ ks) (c ∷ cs) e =
+      let d : Key × Call = keyed_call k in
+      let first : keyed_call k ≡ with_key puts takes c = ap (λ zs. get_or zs 0 d) e in
+      let call : k.call.now ≡ c = ap (λ (p : Key × Call). p.1) first in
+      let rest = keyed ks cs (ap (drop 1) e) in (
+        ap (λ x. x ∷ calls_in ks) call ∙ ap (λ zs. c ∷ zs) rest.0,
+        (ap (λ (p : Key × Call). p.0) first ∙ sym (ap (key_of puts takes) call), rest.1),
+      )
 
-  keys_own : (cs : List Call) → Each (HasKey (key_of puts takes)) (map (with_key puts takes) cs)
-  keys_own [] = tt
-  keys_own (c ∷ cs) = (refl, keys_own cs)
-
-  pub moved_calls : (cs : List Call) (ks ls : List Keyed) → ks ≡ map (with_key puts takes) cs
+  pub moved_calls : (cs : List Call) (ks ls : List Keyed)
+      → map keyed_call ks ≡ map (with_key puts takes) cs
       → IsPermutation ks ls → IsPermutation cs (calls_in ls)
-  moved_calls cs ks ls e h = subst (λ zs. IsPermutation zs (calls_in ls))
-      (ap calls_in e ∙ calls_keyed cs) (IsPermutation-map (λ (k : Keyed). k.call) ks ls h)
+  moved_calls cs ks ls e h = subst (λ zs. IsPermutation zs (calls_in ls)) (keyed ks cs e).0
+      (IsPermutation-map (λ (k : Keyed). k.call.now) ks ls h)
 
-  pub sorted_calls : (cs : List Call) (ks ls : List Keyed) → ks ≡ map (with_key puts takes) cs
+  pub sorted_calls : (cs : List Call) (ks ls : List Keyed)
+      → map keyed_call ks ≡ map (with_key puts takes) cs
       → IsPermutation ks ls → IsSortedBy comes_before ls
       → EachPair (Before (key_of puts takes)) (calls_in ls)
   sorted_calls cs ks ls e h s =
-      let own : Each (HasKey (key_of puts takes)) ks =
-      subst (Each (HasKey (key_of puts takes))) (sym e) (keys_own cs) in
       all_keys (key_of puts takes) ls (each_from_all (HasKey (key_of puts takes)) ls
       (All-permutation (HasKey (key_of puts takes)) ks ls h
-      (all_from_each (HasKey (key_of puts takes)) ks own)))
+      (all_from_each (HasKey (key_of puts takes)) ks (keyed ks cs e).1)))
       (chain ls (λ i d lt. no_later (get_or ls i d) (get_or ls (i + 1) d)
       (s i d (omega arith) lt)))
+
+  -- two lists of calls
+  pub all_keyed : (cs ds : List Call) (first second third : List Keyed) → first ≡ []
+      → map keyed_call second ≡ map keyed_call first ++ map (with_key puts takes) cs
+      → map keyed_call third ≡ map keyed_call second ++ map (with_key puts takes) ds
+      → map keyed_call third ≡ map (with_key puts takes) (cs ++ ds)
+  all_keyed cs ds first second third none one two =
+      two ∙ ap (λ zs. zs ++ map (with_key puts takes) ds)
+      (one ∙ ap (λ (ks : List Keyed). map keyed_call ks ++ map (with_key puts takes) cs) none)
+      ∙ sym (map-append (with_key puts takes) cs ds)

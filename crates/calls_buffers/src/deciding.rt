@@ -114,7 +114,29 @@ fn unproduced_alone(room: usize, calls: &Recorded, windows: &Windows) -> Option<
     }
 }
 
-/// Searches for an order.
+/// Returns a fault of a few calls, if it finds one, or else that of bounds on the jobs of items.
+fn fault_of(
+    alloc: Global,
+    room: usize,
+    calls: &Recorded,
+    windows: &[Window],
+    end: usize,
+    jobs: &[Job],
+    bounds: Vec<Bound>,
+    upto: usize,
+) -> Result<Fault, AllocError>
+    ensures { IfOk result (λ f. (t : ℕ)
+        → AreJobs calls.now.done.items calls.now.pending.items t jobs.now
+        → Refute room jobs.now (reverse bounds.items)
+        → ShowsIn room calls.now.done.items calls.now.pending.items f) }
+{
+    match find_fault(alloc, room, calls, windows, end)? {
+        Some(fault) => Ok(fault),
+        None => overdue(alloc, room, jobs, bounds, upto),
+    }
+}
+
+/// Searches for a fault of a few calls, and then for an order.
 fn search(
     alloc: Global,
     room: usize,
@@ -126,6 +148,9 @@ fn search(
         (Fits end → AreSimple room calls.now.done.items calls.now.pending.items → ⊥)
         → IsAnswer room calls.now.done.items calls.now.pending.items end o) }
 {
+    if let Some(fault) = find_fault(alloc, room, calls, windows, end)? {
+        return Ok(Outcome::Refused(fault));
+    }
     match find_order(alloc, room, calls, windows, end)? {
         Some(order) => Ok(Outcome::Ordered(order)),
         None => Ok(Outcome::NotDecided),
@@ -147,10 +172,13 @@ fn decide_in_turn(
         → IsAnswer room calls.now.done.items calls.now.pending.items end o) }
 {
     match by_turns(alloc, room, calls, end)? {
-        Some(Turned::Refuted(fault)) => Ok(Outcome::Refused(fault)),
+        Some(Turned::Refuted(fault)) => {
+            let short = find_fault(alloc, room, calls, windows, end)?;
+            Ok(Outcome::Refused(short.unwrap_or(fault)))
+        }
         Some(Turned::Ranked(order)) => match settled_order(alloc, room, calls, &order, end)? {
             Some(order) => Ok(Outcome::Ordered(order)),
-            None => Ok(Outcome::NotDecided),
+            None => search(alloc, room, calls, windows, end),
         },
         None => search(alloc, room, calls, windows, end),
     }
@@ -173,12 +201,12 @@ fn decide_all(
 {
     match ranked(alloc, room, windows, end)? {
         Ranking::Refuted(jobs, bounds) => {
-            let fault = overdue(alloc, room, &jobs, bounds, upto)?;
+            let fault = fault_of(alloc, room, calls, windows, end, &jobs, bounds, upto)?;
             Ok(Outcome::Refused(fault))
         }
         Ranking::Ranked(order) => match order_of(alloc, room, calls, &order, &[], end)? {
             Some(order) => Ok(Outcome::Ordered(order)),
-            None => Ok(Outcome::NotDecided),
+            None => search(alloc, room, calls, windows, end),
         },
     }
 }
@@ -202,7 +230,7 @@ fn decide_returned(
     let returned_windows = returned_windows(alloc, windows, end)?;
     match ranked(alloc, room, &returned_windows, end)? {
         Ranking::Refuted(jobs, bounds) => {
-            let fault = overdue(alloc, room, &jobs, bounds, upto)?;
+            let fault = fault_of(alloc, room, calls, windows, end, &jobs, bounds, upto)?;
             Ok(Outcome::Refused(fault))
         }
         Ranking::Ranked(_) => decide_in_turn(alloc, room, calls, windows, end),
@@ -239,9 +267,10 @@ fn after(events: &Part<'_, '_>) -> usize {
 }
 
 /// Decides whether the calls of a buffer with room for so many items have a linearization. It does
-/// so if no item is put in twice and no pending consume may have taken one; or no two produces
-/// overlap; or no two consumes overlap, and no more was put in than was returned or the pending
-/// consume, if there is one, comes last. `end` is a position after all events.
+/// so, if there is room, if no item is put in twice and no pending consume may have taken one; or no
+/// two produces overlap; or no two consumes overlap, and no more was put in than was returned or the
+/// pending consume, if there is one, comes last. `end` is a position after all events, and not the
+/// last of all: there only faults and orders that are found count.
 pub fn decide(
     alloc: Global,
     room: usize,
@@ -255,9 +284,6 @@ pub fn decide(
     let calls = record(alloc, events)?;
     let windows = windows_of(alloc, &calls, end)?;
     if let Some(fault) = unproduced_alone(room, &calls, &windows) {
-        return Ok(Outcome::Refused(fault));
-    }
-    if let Some(fault) = find_fault(alloc, room, &calls, &windows, end)? {
         return Ok(Outcome::Refused(fault));
     }
     if windows.distinct && end < usize::MAX {

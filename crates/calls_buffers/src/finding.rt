@@ -7,7 +7,7 @@ use crate::accesses::Place;
 use crate::recorded::Recorded;
 use crate::tally::Tally;
 use crate::testing::{crowded, overfull, overtaken, passed, squeezed, unproduced};
-use crate::windows::{Window, Windows};
+use crate::windows::Window;
 use calls_core::Op;
 use std::alloc::{AllocError, Global};
 use std::cmp::Reverse;
@@ -57,11 +57,8 @@ fn pending_takes(alloc: Global, calls: &Recorded) -> Result<Vec<usize>, AllocErr
 }
 
 /// Returns a consume that returned before its item was produced.
-fn too_early(windows: &Windows) -> Option<Candidate> {
-    if let Some(take) = windows.alone {
-        return Some(Candidate::Unproduced(take));
-    }
-    for window in &windows.list {
+fn too_early(windows: &[Window]) -> Option<Candidate> {
+    for window in windows {
         if window.take_last < window.put_first {
             return window.take.map(|take| Candidate::Unproduced(take));
         }
@@ -248,11 +245,11 @@ fn candidates(
     alloc: Global,
     room: usize,
     calls: &Recorded,
-    windows: &Windows,
+    windows: &[Window],
     end: usize,
 ) -> Result<Vec<Option<Candidate>>, AllocError> {
     let pending = pending_takes(alloc, calls)?;
-    let moments = returned(alloc, &windows.list, end)?;
+    let moments = returned(alloc, windows, end)?;
     let taken = invoked(alloc, &moments)?;
     let inside = inside(alloc, &moments)?;
     let taken_inside = invoked(alloc, &inside)?;
@@ -264,8 +261,8 @@ fn candidates(
     list.push(full.map(|place| Candidate::Overfull(place)))?;
     let crowd = too_many(room, &inside, &taken_inside, &pending);
     list.push(crowd.map(|place| Candidate::Crowded(place)))?;
-    list.push(too_late(&windows.list, &latest))?;
-    list.push(passed_over(&windows.list, &kept, &pending))?;
+    list.push(too_late(windows, &latest))?;
+    list.push(passed_over(windows, &kept, &pending))?;
     list.push(squeezed_in(alloc, room, &moments, &pending)?)?;
     Ok(list)
 }
@@ -275,7 +272,7 @@ pub(crate) fn find_fault(
     alloc: Global,
     room: usize,
     calls: &Recorded,
-    windows: &Windows,
+    windows: &[Window],
     end: usize,
 ) -> Result<Option<Fault>, AllocError>
     ensures { IfOk result (λ f. IfSome f (ShowsIn room calls.now.done.items

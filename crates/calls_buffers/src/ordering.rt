@@ -1,5 +1,5 @@
 //! Orders the calls that take effect.
-ghost use Rattle.std.specs.Prelude.{◌≡◌, ◌++◌, List, None, map, IfOk, IfSome, IsSome, OnOk};
+ghost use Rattle.std.specs.Prelude.{◌≡◌, ◌++◌, List, None, map, IfOk, IfSome, IsSome};
 ghost use Rattle.std.specs.Prelude.{slice_index_or};
 ghost use Rattle.std.specs.HashMap.{get};
 ghost use Rattle.std.specs.List.Sorted.{IsPermutation};
@@ -7,7 +7,7 @@ ghost use Rattle.calls_core.specs.Lists.{EachPair};
 ghost use Rattle.calls_core.specs.declared.history.Call.{Call};
 ghost use Rattle.calls_buffers.specs.Queues.{IsLegal};
 ghost use Rattle.calls_buffers.specs.kept.Orders.{answered_from, calls_in, IsFound};
-ghost use Rattle.calls_buffers.specs.kept.Orders.{same_pair, place_in, key_of, with_key};
+ghost use Rattle.calls_buffers.specs.kept.Orders.{same_pair, place_in, key_of, keyed_call, with_key};
 ghost use Rattle.calls_buffers.specs.kept.Orders.{Before};
 
 use crate::checking::verify;
@@ -29,11 +29,11 @@ pub(crate) struct Key {
 
 /// A call, and its place.
 #[derive(Clone, Copy)]
-pub(crate) struct Keyed {
+pub(crate) struct Keyed<'c> {
     /// Its place.
     pub(crate) key: Key,
     /// The call.
-    pub(crate) call: Call,
+    pub(crate) call: &'c Call,
 }
 
 /// The places of the calls of items, each by the item and the position of the call's invocation.
@@ -75,9 +75,9 @@ fn place_of(plan: &Plan, call: &Call) -> Option<Key>
 }
 
 /// Returns the place of a call. One that has none is right after its invocation.
-fn key_call(plan: &Plan, call: &Call) -> Keyed
-    ensures { result ≡ with_key (get same_pair plan.now.puts) (get same_pair plan.now.takes)
-        call.now }
+fn key_call<'c>(plan: &Plan, call: &'c Call) -> Keyed<'c>
+    ensures { keyed_call result
+        ≡ with_key (get same_pair plan.now.puts) (get same_pair plan.now.takes) call.now }
 {
     let key = match place_of(plan, call) {
         Some(key) => key,
@@ -87,35 +87,45 @@ fn key_call(plan: &Plan, call: &Call) -> Keyed
             takes: false,
         },
     };
-    Keyed { key, call: *call }
+    Keyed { key, call }
 }
 
-/// Lists calls with their places.
-fn with_keys(alloc: Global, plan: &Plan, calls: &[Call]) -> Result<Vec<Keyed>, AllocError>
-    ensures { IfOk result (λ list. list.items ≡ map (with_key (get same_pair plan.now.puts)
-        (get same_pair plan.now.takes)) calls.now) }
+/// Adds calls with their places.
+fn add_keyed<'c>(
+    list: &mut Vec<Keyed<'c>>,
+    plan: &Plan,
+    calls: &'c [Call],
+) -> Result<(), AllocError>
+    ensures { IfOk result (λ _. map keyed_call list.new.items ≡ map keyed_call list.old.items
+        ++ map (with_key (get same_pair plan.now.puts) (get same_pair plan.now.takes)) calls.now) }
 {
-    let mut list = Vec::new(alloc);
     for call in calls {
         list.push(key_call(plan, call))?;
     }
-    Ok(list)
+    Ok(())
 }
 
 /// Lists calls without their places.
-fn without_keys(alloc: Global, list: &[Keyed]) -> Result<Vec<Call>, AllocError>
+fn without_keys(alloc: Global, list: &[Keyed<'_>]) -> Result<Vec<Call>, AllocError>
     ensures { IfOk result (λ calls. calls.items ≡ calls_in list.now) }
 {
-    list.iter().map(|keyed| keyed.call).collect(alloc)
+    list.iter().map(|keyed| *keyed.call).collect(alloc)
 }
 
-/// Lists calls in the order of their places.
-fn sorted(alloc: Global, plan: &Plan, calls: &[Call]) -> Result<Vec<Call>, AllocError>
-    ensures moved { IfOk result (λ list. IsPermutation calls.now list.items) }
+/// Lists the completed calls, and others that are answered, in the order of their places.
+fn sorted(
+    alloc: Global,
+    plan: &Plan,
+    done: &[Call],
+    answered: &[Call],
+) -> Result<Vec<Call>, AllocError>
+    ensures moved { IfOk result (λ list. IsPermutation (done.now ++ answered.now) list.items) }
     ensures ordered { IfOk result (λ list. EachPair (Before (key_of (get same_pair plan.now.puts)
         (get same_pair plan.now.takes))) list.items) }
 {
-    let mut list = with_keys(alloc, plan, calls)?;
+    let mut list = Vec::new(alloc);
+    add_keyed(&mut list, plan, done)?;
+    add_keyed(&mut list, plan, answered)?;
     list.sort_by_key(|keyed| (keyed.key.point, keyed.key.rank, keyed.key.takes))?;
     without_keys(alloc, &list)
 }
@@ -127,22 +137,22 @@ fn answer_at(answers: &[Option<Reply>], i: usize) -> Option<Reply>
     if i < answers.len() { answers[i] } else { None }
 }
 
-/// Adds the pending calls that take effect, with their replies as if they came at `end`.
-fn add_pending(
-    list: &mut Vec<Call>,
+/// Lists the pending calls that take effect, with their replies as if they came at `end`.
+fn answered(
+    alloc: Global,
     pending: &[PendingCall],
     answers: &[Option<Reply>],
     end: usize,
-) -> Result<(), AllocError>
-    ensures { OnOk result (list.new.items ≡ list.old.items
-        ++ answered_from end answers.now 0 pending.now) }
+) -> Result<Vec<Call>, AllocError>
+    ensures { IfOk result (λ list. list.items ≡ answered_from end answers.now 0 pending.now) }
 {
+    let mut list = Vec::new(alloc);
     for i in 0..pending.len() {
         if let Some(reply) = answer_at(answers, i) {
             list.push(pending[i].complete(reply, end))?;
         }
     }
-    Ok(())
+    Ok(list)
 }
 
 /// Returns calls with their points.
@@ -173,9 +183,8 @@ pub(crate) fn follow(
         → EachPair (Before (key_of (get same_pair plan.now.puts) (get same_pair plan.now.takes))) cs
         → IsLegal room cs) → IfOk result (λ order. IsSome order) }
 {
-    let mut list = Vec::from_slice(alloc, &calls.done)?;
-    add_pending(&mut list, &calls.pending, answers, end)?;
-    let order = sorted(alloc, plan, &list)?;
+    let answered = answered(alloc, &calls.pending, answers, end)?;
+    let order = sorted(alloc, plan, &calls.done, &answered)?;
     if !verify(alloc, room, &order)? {
         return Ok(None);
     }

@@ -14,7 +14,7 @@ use Rattle.calls_buffers.specs.declared.ordering.Keyed.{Keyed}
 use Rattle.calls_buffers.specs.Queues.{IsLegal}
 
 abbrev pub calls_in : List Keyed → List Call
-calls_in list = map (λ (k : Keyed). k.call) list
+calls_in list = map (λ (k : Keyed). k.call.now) list
 
 -- the pending calls that have a reply in a list of replies, of which the first one has its reply at
 -- index i
@@ -46,8 +46,11 @@ key_or first (Some k) = k
 abbrev pub key_of : Places → Places → Call → Key
 key_of puts takes c = key_or c.first (place_in puts takes c.op c.reply c.first)
 
-abbrev pub with_key : Places → Places → Call → Keyed
-with_key puts takes c = record { key = key_of puts takes c; call = c }
+abbrev pub keyed_call : Keyed → Key × Call
+keyed_call k = (k.key, k.call.now)
+
+abbrev pub with_key : Places → Places → Call → Key × Call
+with_key puts takes c = (key_of puts takes c, c)
 
 -- at one point the calls of lower ranks come first, and of one item its produce
 abbrev pub slot : Key → ℕ

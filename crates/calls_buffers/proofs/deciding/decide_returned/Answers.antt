@@ -19,7 +19,7 @@ returns-in-Refuted c = λ are fits hard.
     let answer = subst (IsRanking c.args.room c.deref.result.now) c.in-Refuted.is
     (c.in_ok-jobs.ensures (omega (arith, fits)) (subst (AreFit end) (sym same)
     (returned_fit ws end (are_fit end done pending ws are)))) in
-    c.in_ok-fault-in-Refuted.ensures done pending end
+    c.in_ok-fault-in-Refuted.ensures end
     (subst (AreJobs done pending end) (sym c.deref-in-Refuted.ensures.value)
     (returned_sound end done pending ws c.in-Refuted.jobs.items are
     (subst (λ (zs : List Window). AreJobsFrom zs zs c.in-Refuted.jobs.items) same answer.0)))
