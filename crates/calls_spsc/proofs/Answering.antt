@@ -46,7 +46,7 @@ module _ (old new : Monitor) (x : Event) (r : Reply) (c : Call) (result : Result
       judged_verdict n past x r p.call c new result act
       (put_ends n past x r old.items.items p old.take act his h w').own is h spsc
       (room ∙ w.room_is) w.small
-      (subst (λ q. IsJudged n past x new.items.items q new.take result) (sym none)
+      (subst (λ q. IsJudged n past x p.call.op r new.items.items q new.take result) (sym none)
       (put_judged n past x r old.items.items p old.take act his h w' w.small new.items.items
       new.take result (subst (λ k. EndsPut k old.items.items new.items.items old.take new.take
       p.item r p.returned result) w.room_is how)))
@@ -61,7 +61,7 @@ module _ (old new : Monitor) (x : Event) (r : Reply) (c : Call) (result : Result
       judged_verdict n past x r t.call c new result act
       (take_ends n past x r old.items.items old.put t act his h w').own is h spsc
       (room ∙ w.room_is) w.small
-      (subst (λ q. IsJudged n past x new.items.items new.put q result) (sym none)
+      (subst (λ q. IsJudged n past x t.call.op r new.items.items new.put q result) (sym none)
       (take_judged n past x r old.items.items old.put t act his h w' new.items.items new.put result
       how))
 

@@ -7,6 +7,7 @@ use Rattle.std.proofs.Common.{slice_get}
 use Rattle.std.specs.Prelude.{if◌then◌else◌}
 use Rattle.std.proofs.lemmas.Bool.{eqb-true, eqb-false}
 use Rattle.calls_core.specs.declared.history.Kind.TheVariants.{Buffer}
+use Rattle.calls_core.specs.declared.history.Op.{Op}
 use Rattle.calls_core.specs.declared.history.Op.TheVariants.{Produce, Consume}
 use Rattle.calls_core.specs.declared.history.Reply.{Reply}
 use Rattle.calls_core.specs.declared.history.Reply.TheVariants.{Done, Number, Timeout}
@@ -44,12 +45,13 @@ use Rattle.calls_spsc.proofs.Stepping.{puts_by_put, takes_by_put, puts_by_take, 
 use Rattle.calls_spsc.proofs.Stepping.{take_held, take_oldest, take_early, take_timeout}
 use Rattle.calls_spsc.proofs.Refusing.{overfull_stops, short_stops, at_seam, other_stops}
 
--- the state after the event, or why there is none
-abbrev pub IsJudged : ℕ → List Event → Event → List ℕ → Option PendingPut → Option PendingTake
-    → Result Unit Refusal → Type 0
-IsJudged n past x items put take (Ok u) = Following n (x ∷ past) items put take
-IsJudged n past x items put take (Err e) =
-    Says n past (x ∷ past) e × (Flows n (x ∷ past) → ⊥)
+-- the state after the event, by which a call of this operation returned this reply; or why there is
+-- none
+abbrev pub IsJudged : ℕ → List Event → Event → Op → Reply → List ℕ → Option PendingPut
+    → Option PendingTake → Result Unit Refusal → Type 0
+IsJudged n past x op r items put take (Ok u) = Following n (x ∷ past) items put take
+IsJudged n past x op r items put take (Err e) =
+    Says n past (x ∷ past) op r e × (Flows n (x ∷ past) → ⊥)
 
 pub following_order : (n : ℕ) (past : List Event) (items : List ℕ)
     (put : Option PendingPut) (take : Option PendingTake) → IsHistoryOf (Buffer n) past
@@ -62,14 +64,14 @@ pub judged_verdict : (n : ℕ) (past : List Event) (x : Event) (r : Reply) (o : 
     (c : Call) (new : Monitor) (result : Result Unit Refusal) → x.action ≡ Respond r
     → pending_of x.worker (pending_calls past) ≡ Some o → c ≡ completion x.at r o
     → IsHistoryOf (Buffer n) (x ∷ past) → IsSpsc (x ∷ past)
-    → new.room ≡ n → n ≤ ROOM_MAX → IsJudged n past x new.items.items new.put new.take result
+    → new.room ≡ n → n ≤ ROOM_MAX → IsJudged n past x o.op r new.items.items new.put new.take result
     → Verdict n past x new (verdict_on c result)
 judged_verdict n past x r o c new (Ok u) act own is h spsc room small j = record {
   watches = record { room_is = room; small = small; follows = j };
   order = following_order n (x ∷ past) new.items.items new.put new.take h j;
 }
 judged_verdict n past x r o c new (Err e) act own is h spsc room small j = record {
-  says = j.0;
+  says = subst (λ (d : Call). Says n past (x ∷ past) d.op d.reply e) (sym is) j.0;
   none = λ l. j.1 (order_flows n (x ∷ past) h spsc l);
   ended =
       responded_done past x r o act own ∙ ap (λ d. d ∷ completed_calls past) (sym is);
@@ -162,7 +164,7 @@ module _ (n : ℕ) (past : List Event) (x : Event) (r : Reply) (items : List ℕ
 
   -- there is no room for its item
   pub put_stops : p.returned ≡ false → r ≡ Done → n ≤ length items → CannotHold items take
-      → IsJudged n past x items None take (Err Full)
+      → IsJudged n past x p.call.op r items None take (Err Full)
   put_stops fresh done full cannot =
       let e = lengths fresh in
       let puts = ap length (put_puts ∙ ap (λ s. put_items past
@@ -174,11 +176,11 @@ module _ (n : ℕ) (past : List Event) (x : Event) (r : Reply) (items : List ℕ
       let over : IsOverfull n (x ∷ past) = elim cannot [
         | inl empty ↦ (let z : length items ≡ 0 = ap length empty in absurd (omega arith))
         | inr held ↦ (let z = held_all take held in omega arith)
-      ] in (over, overfull_stops n (x ∷ past) over)
+      ] in ((over, (p.item, is_produce), done), overfull_stops n (x ∷ past) over)
 
   -- it gave up, but its item was returned
   pub put_needed : p.returned ≡ true → r ≡ Timeout
-      → IsJudged n past x items None take (Err Needed)
+      → IsJudged n past x p.call.op r items None take (Err Needed)
   put_needed returned late =
       let early : early_item (Some p) ≡ Some p.item =
       ap (λ b. if b then Some p.item else None) returned in
@@ -199,7 +201,7 @@ module _ (n : ℕ) (past : List Event) (x : Event) (r : Reply) (items : List ℕ
       let c = ap length put_takes in
       let d = length-append (put_items past) (p.item ∷ []) in
       let short : IsShort (x ∷ past) = omega arith in (
-        inr short,
+        (late, inr ((p.item, is_produce), short)),
         short_stops n (x ∷ past) short,
       )
 
@@ -270,24 +272,24 @@ module _ (n : ℕ) (past : List Event) (x : Event) (r : Reply) (items : List ℕ
   pub put_judged : n ≤ ROOM_MAX → (more : List ℕ) (later : Option PendingTake)
       (result : Result Unit Refusal)
       → EndsPut n items more take later p.item r p.returned result
-      → IsJudged n past x more None later result
+      → IsJudged n past x p.call.op r more None later result
   put_judged small more later result how = go r p.returned result refl refl how
     where
       go : (s : Reply) (b : Bool) (result : Result Unit Refusal) → r ≡ s → p.returned ≡ b
           → EndsPut n items more take later p.item s b result
-          → IsJudged n past x more None later result
+          → IsJudged n past x p.call.op r more None later result
       go Done false (Ok u) is fresh how = put_goes fresh is more later how
       go Done false (Err e) is fresh how =
-          subst (λ e. IsJudged n past x more None later (Err e)) (sym how.0)
+          subst (λ e. IsJudged n past x p.call.op r more None later (Err e)) (sym how.0)
           (let none = no_room small how.1 in put_stops fresh is none.0 none.1)
       go Done true result is returned how =
-          subst (IsJudged n past x more None later) (sym how.0)
+          subst (IsJudged n past x p.call.op r more None later) (sym how.0)
           (put_stays more later how.1 how.2 (put_late is returned))
       go Timeout false result is fresh how =
-          subst (IsJudged n past x more None later) (sym how.0)
+          subst (IsJudged n past x p.call.op r more None later) (sym how.0)
           (put_stays more later how.1 how.2 (put_gave_up is fresh))
       go Timeout true result is returned how =
-          subst (IsJudged n past x more None later) (sym how) (put_needed returned is)
+          subst (IsJudged n past x p.call.op r more None later) (sym how) (put_needed returned is)
       go (Number v) b result is returned how = absurd (subst (Suits (Produce p.item)) is put_suits)
 
 -- THE CONSUME RESPONDS
@@ -374,14 +376,12 @@ module _ (n : ℕ) (past : List Event) (x : Event) (r : Reply) (items : List ℕ
   -- it returned another item than the next one
   other : (v next : ℕ) (zs : List ℕ) → r ≡ Number v → (v ≡ next → ⊥)
       → produced_items past ≡ taken_items past ++ next ∷ zs
-      → Says n past (x ∷ past) (NotNext next) × (Flows n (x ∷ past) → ⊥)
+      → Says n past (x ∷ past) t.call.op r (NotNext next) × (Flows n (x ∷ past) → ⊥)
   other v next zs is ne flow =
       let k = length (taken_items past) in
       let says : slice_get (produced_items past) k ≡ Some next =
-      ap (λ ys. slice_get ys k) flow ∙ at_seam (taken_items past) next zs in
-      let mine : slice_get (taken_items (x ∷ past)) k ≡ Some v =
-      ap (λ ys. slice_get ys k) (taken_one v is) ∙ at_seam (taken_items past) v [] in (
-        (says, λ e. (let both : Some v ≡ Some next = sym mine ∙ e in ne cc)),
+      ap (λ ys. slice_get ys k) flow ∙ at_seam (taken_items past) next zs in (
+        (says, (v, (consumes_it, is), ne)),
         other_stops n (x ∷ past) (taken_items past) v next (taken_one v is)
             (ap (λ ys. slice_get ys k) produced_same ∙ says) ne,
       )
@@ -390,13 +390,14 @@ module _ (n : ℕ) (past : List Event) (x : Event) (r : Reply) (items : List ℕ
       (result : Result Unit Refusal) → r ≡ Number v → result ≡ expected next v
       → produced_items past ≡ taken_items past ++ next ∷ zs
       → (r ≡ Number next → Following n (x ∷ past) more later None)
-      → IsJudged n past x more later None result
+      → IsJudged n past x t.call.op r more later None result
   compared more later v next zs result number is flow good =
-      elim (v == next) as (λ b. (v == next) ≡ b → IsJudged n past x more later None result) [
-        | true ↦ λ e. subst (IsJudged n past x more later None)
+      elim (v == next) as (λ b. (v == next) ≡ b
+      → IsJudged n past x t.call.op r more later None result) [
+        | true ↦ λ e. subst (IsJudged n past x t.call.op r more later None)
             (sym (is ∙ ap (λ b. if b then Ok tt else Err (NotNext next)) e))
             (good (number ∙ ap Number (eqb-true v next e)))
-        | false ↦ λ e. subst (IsJudged n past x more later None)
+        | false ↦ λ e. subst (IsJudged n past x t.call.op r more later None)
             (sym (is ∙ ap (λ b. if b then Ok tt else Err (NotNext next)) e))
             (other v next zs number (eqb-false v next e) flow)
       ] refl
@@ -421,7 +422,7 @@ module _ (n : ℕ) (past : List Event) (x : Event) (r : Reply) (items : List ℕ
 
     held_compared : (rest : List ℕ) (later : Option PendingPut) (v : ℕ)
         (result : Result Unit Refusal) → r ≡ Number v → result ≡ expected g v → rest ≡ items
-        → later ≡ put → IsJudged n past x rest later None result
+        → later ≡ put → IsJudged n past x t.call.op r rest later None result
     held_compared rest later v result number is m l =
         compared rest later v g (items ++ asked_items past) result number is
         (ap (λ ys. ys ++ asked_items past) held_flow ∙ regroup (taken_items past)
@@ -433,7 +434,8 @@ module _ (n : ℕ) (past : List Event) (x : Event) (r : Reply) (items : List ℕ
         regroup : (ys zs : List ℕ) → ((ys ++ g ∷ []) ++ items) ++ zs ≡ ys ++ g ∷ (items ++ zs)
         regroup ys zs = simp append_assoc
 
-    held_needed : r ≡ Timeout → Says n past (x ∷ past) Needed × (Flows n (x ∷ past) → ⊥)
+    held_needed : r ≡ Timeout
+        → Says n past (x ∷ past) t.call.op r Needed × (Flows n (x ∷ past) → ⊥)
     held_needed late =
         let a = ap length held_flow in
         let b = length-append (taken_items past ++ g ∷ []) items in
@@ -444,7 +446,7 @@ module _ (n : ℕ) (past : List Event) (x : Event) (r : Reply) (items : List ℕ
         let full : length items ≡ n = (held_is (Some g) held).full in
         let none = none_left in
         let over : IsOverfull n (x ∷ past) = omega arith in (
-          inl over,
+          (late, inl (consumes_it, over)),
           overfull_stops n (x ∷ past) over,
         )
 
@@ -453,7 +455,7 @@ module _ (n : ℕ) (past : List Event) (x : Event) (r : Reply) (items : List ℕ
   module _ (free : t.taken ≡ None) where
     takes_oldest : (rest : List ℕ) (later : Option PendingPut) (v next : ℕ)
         (result : Result Unit Refusal) → r ≡ Number v → result ≡ expected next v
-        → items ≡ next ∷ rest → later ≡ put → IsJudged n past x rest later None result
+        → items ≡ next ∷ rest → later ≡ put → IsJudged n past x t.call.op r rest later None result
     takes_oldest rest later v next result number is oldest l =
         let k = held_is None free in
         let none : early_item put ≡ None =
@@ -472,7 +474,7 @@ module _ (n : ℕ) (past : List Event) (x : Event) (r : Reply) (items : List ℕ
     takes_early : (rest : List ℕ) (later : Option PendingPut) (v next : ℕ)
         (result : Result Unit Refusal) → r ≡ Number v → result ≡ expected next v
         → items ≡ [] → rest ≡ [] → IsEarly next put later
-        → IsJudged n past x rest later None result
+        → IsJudged n past x t.call.op r rest later None result
     takes_early rest later v next result number is empty gone k =
         let p : PendingPut = record { call = k.call; item = next; returned = false } in
         let holds : Holding n past [] None None =
@@ -497,7 +499,7 @@ module _ (n : ℕ) (past : List Event) (x : Event) (r : Reply) (items : List ℕ
         holds))))
 
     takes_none : (v : ℕ) → r ≡ Number v → HasNoNext items put
-        → Says n past (x ∷ past) Empty × (Flows n (x ∷ past) → ⊥)
+        → Says n past (x ∷ past) t.call.op r Empty × (Flows n (x ∷ past) → ⊥)
     takes_none v number none =
         let k = held_is None free in
         let e : produced_items past ≡ taken_items past =
@@ -510,7 +512,7 @@ module _ (n : ℕ) (past : List Event) (x : Event) (r : Reply) (items : List ℕ
         let d = length-append (taken_items past) (v ∷ []) in
         let le : length (produced_items past) ≤ length (taken_items past) = omega arith in
         let short : IsShort (x ∷ past) = omega arith in (
-          (le, short),
+          (le, (v, (consumes_it, number))),
           short_stops n (x ∷ past) short,
         )
       where
@@ -523,12 +525,12 @@ module _ (n : ℕ) (past : List Event) (x : Event) (r : Reply) (items : List ℕ
 
   pub take_judged : (rest : List ℕ) (later : Option PendingPut) (result : Result Unit Refusal)
       → EndsTake items rest put later r t.taken result
-      → IsJudged n past x rest later None result
+      → IsJudged n past x t.call.op r rest later None result
   take_judged rest later result how = go r t.taken refl refl how
     where
       go : (s : Reply) (held : Option ℕ) → r ≡ s → t.taken ≡ held
           → EndsTake items rest put later s held result
-          → IsJudged n past x rest later None result
+          → IsJudged n past x t.call.op r rest later None result
       go (Number v) (Some g) is held how =
           held_compared g held rest later v result is how.0 how.1 how.2
       go (Number v) None is free (inl (next, inl (oldest, l), e)) =
@@ -536,11 +538,11 @@ module _ (n : ℕ) (past : List Event) (x : Event) (r : Reply) (items : List ℕ
       go (Number v) None is free (inl (next, inr (empty, gone, k), e)) =
           takes_early free rest later v next result is e empty gone k
       go (Number v) None is free (inr (e, none)) =
-          subst (IsJudged n past x rest later None) (sym e) (takes_none free v is none)
+          subst (IsJudged n past x t.call.op r rest later None) (sym e) (takes_none free v is none)
       go Timeout (Some g) is held how =
-          subst (IsJudged n past x rest later None) (sym how) (held_needed g held is)
+          subst (IsJudged n past x t.call.op r rest later None) (sym how) (held_needed g held is)
       go Timeout None is free how =
-          subst (IsJudged n past x rest later None) (sym how.0)
+          subst (IsJudged n past x t.call.op r rest later None) (sym how.0)
           (take_stays rest later how.2 (subst (λ zs. Holding n (x ∷ past) zs (early_item put) None)
           (sym how.1) (take_timeout n past x r t.call (put_calls put) act take_ends consumes_it
           all_produces h items (early_item put) is (held_is None free))))

@@ -5,6 +5,7 @@ use Rattle.std.proofs.Common.{refl, ap}
 use Rattle.std.proofs.Common.{sym, subst}
 use Rattle.std.proofs.lemmas.Bool.{eqb-true, eqb-false, cases_lt}
 use Rattle.calls_core.specs.declared.history.Kind.TheVariants.{Buffer}
+use Rattle.calls_core.specs.declared.history.Op.{Op}
 use Rattle.calls_core.specs.declared.history.Op.TheVariants.{Produce}
 use Rattle.calls_core.specs.declared.history.Reply.{Reply}
 use Rattle.calls_core.specs.declared.history.Reply.TheVariants.{Done, Number, Timeout}
@@ -35,12 +36,12 @@ record IsFollowed (n : ℕ) (past : List Event) : Type 0 where
   take : Option PendingTake
   follows : Following n past items put take
 
-judged_follows : (n : ℕ) (past : List Event) (x : Event) (items : List ℕ) (put : Option PendingPut)
-    (take : Option PendingTake) (result : Result Unit Refusal) → Flows n (x ∷ past)
-    → IsJudged n past x items put take result → IsFollowed n (x ∷ past)
-judged_follows n past x items put take (Ok u) f j =
+judged_follows : (n : ℕ) (past : List Event) (x : Event) (op : Op) (r : Reply) (items : List ℕ)
+    (put : Option PendingPut) (take : Option PendingTake) (result : Result Unit Refusal)
+    → Flows n (x ∷ past) → IsJudged n past x op r items put take result → IsFollowed n (x ∷ past)
+judged_follows n past x op r items put take (Ok u) f j =
     record { items = items; put = put; take = take; follows = j }
-judged_follows n past x items put take (Err e) f j = absurd (j.1 f)
+judged_follows n past x op r items put take (Err e) f j = absurd (j.1 f)
 
 -- what a consume that responds does to the items
 record CanEndTake (items : List ℕ) (put : Option PendingPut) (r : Reply) (held : Option ℕ) : Type 0
@@ -179,7 +180,7 @@ module _ (n : ℕ) (past : List Event) (x : Event) (r : Reply) (items : List ℕ
       → IsFollowed n (x ∷ past)
   take_follows t his w =
       let k = ends_take items put r t.taken in
-      judged_follows n past x k.rest k.later None k.result flows
+      judged_follows n past x t.call.op r k.rest k.later None k.result flows
       (take_judged n past x r items put t act his h w k.rest k.later k.result k.ends)
 
   -- the response is that of the pending produce or of the pending consume

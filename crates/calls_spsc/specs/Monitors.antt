@@ -2,6 +2,10 @@
 use Rattle.std.specs.Prelude.{◌≡◌, ◌⊎◌, ℕ, ◌+◌, ◌<◌, ◌≤◌, List, ◌∷◌, ◌++◌, length, Result}
 use Rattle.std.specs.Prelude.{Ok, Err, Some, slice_get}
 use Rattle.calls_core.specs.declared.history.Kind.TheVariants.{Buffer}
+use Rattle.calls_core.specs.declared.history.Op.{Op}
+use Rattle.calls_core.specs.declared.history.Op.TheVariants.{Produce, Consume}
+use Rattle.calls_core.specs.declared.history.Reply.{Reply}
+use Rattle.calls_core.specs.declared.history.Reply.TheVariants.{Done, Number, Timeout}
 use Rattle.calls_core.specs.declared.history.Event.{Event}
 use Rattle.calls_core.specs.Histories.{completed_calls, IsHistoryOf}
 use Rattle.calls_core.specs.Outcomes.{HasOrderOf}
@@ -34,18 +38,29 @@ IsOverfull n past =
 abbrev pub IsShort : List Event → Type 0
 IsShort past = length (produced_items past) < length (taken_items past)
 
--- why the history `now` has no linearization. `past` is the history before its last event
-abbrev pub Says : ℕ → List Event → List Event → Refusal → Type 0
-Says n past now (NotNext v) =
-    let i = length (taken_items past) in
-    (slice_get (produced_items past) i ≡ Some v) × (slice_get (taken_items now) i ≡ Some v → ⊥)
-Says n past now Empty = (length (produced_items past) ≤ length (taken_items past)) × IsShort now
-Says n past now Full = IsOverfull n now
-Says n past now Needed = IsOverfull n now ⊎ IsShort now
+-- a consume returned w
+abbrev pub Takes : Op → Reply → ℕ → Type 0
+Takes op r w = (op ≡ Consume) × (r ≡ Number w)
+
+-- it is a produce
+abbrev pub Puts : Op → Type 0
+Puts op = (v : ℕ) × (op ≡ Produce v)
+
+-- why the history `now` has no linearization. `past` is the history before its last event, by which
+-- a call of this operation returned this reply
+abbrev pub Says : ℕ → List Event → List Event → Op → Reply → Refusal → Type 0
+Says n past now op r (NotNext v) =
+    (slice_get (produced_items past) (length (taken_items past)) ≡ Some v)
+    × ((w : ℕ) × Takes op r w × (w ≡ v → ⊥))
+Says n past now op r Empty =
+    (length (produced_items past) ≤ length (taken_items past)) × ((w : ℕ) × Takes op r w)
+Says n past now op r Full = IsOverfull n now × Puts op × (r ≡ Done)
+Says n past now op r Needed =
+    (r ≡ Timeout) × (((op ≡ Consume) × IsOverfull n now) ⊎ (Puts op × IsShort now))
 
 -- with the event x the history has no linearization; x is the response of this call
 pub record IsRefused (n : ℕ) (past : List Event) (x : Event) (r : Refused) : Type 0 where
-  pub says : Says n past (x ∷ past) r.refusal
+  pub says : Says n past (x ∷ past) r.call.op r.call.reply r.refusal
   pub none : HasOrderOf (Buffer n) (x ∷ past) → ⊥
   pub ended : completed_calls (x ∷ past) ≡ r.call ∷ completed_calls past
 
