@@ -3,6 +3,7 @@
 import subprocess
 
 from trying.counting import tried
+from trying.files import TOP
 from trying.rows import rows_in
 from trying.running import run
 
@@ -18,7 +19,7 @@ def faults_of(program, row):
     for command in row.commands:
         name = repr(b" ".join(command.words).decode(errors="backslashreplace"))
         try:
-            ended = run([program, *command.words], text, SECONDS)
+            ended = run([program, *command.words], text, SECONDS, cwd=TOP)
         except subprocess.TimeoutExpired:
             return faults + [f"{name} had not ended after {SECONDS} seconds"]
         except (OSError, ValueError) as error:

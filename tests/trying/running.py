@@ -49,7 +49,7 @@ class Program:
     def ends_in_pieces(self, words, text, most):
         """Returns the result if each read gives at most so many bytes: a socket of packets gives one at a time."""
         near, far = socket.socketpair(socket.AF_UNIX, socket.SOCK_SEQPACKET)
-        with near, self.begun(words, stdin=far) as begun:
+        with near, self.begun(words, stdin=far, cwd=TOP) as begun:
             far.close()
             try:
                 for at in range(0, len(text), most):

@@ -16,7 +16,7 @@ use Rattle.clap.specs.ValueTests.{accepts}
 use Rattle.clap.specs.declared.error.kind.ErrorKind.TheVariants as kinds
 use Rattle.clap.proofs.OnLiterals.{clap_on_literals}
 use Rattle.clap.proofs.ValueTestLemmas.{Accepts-accepts, accepts-Accepts}
-use Rattle.evc_cli.specs.CommandLine.{AskFor, NamesTask, ReadsTurns, RunWith, faults_in, turns_text}
+use Rattle.evc_cli.specs.CommandLine.{AskFor, NamesTask, ReadsTurns, RunWith, faults_in, file_in, turns_text}
 use Rattle.evc_cli.specs.declared.choice.Task.TheVariants as tasks
 use Rattle.evc_cli.specs.Turns.{IsInRange, Writes, turns_parser}
 use Rattle.evc_cli.proofs.CommandMet.{ready}
@@ -97,6 +97,9 @@ module _ (d : ℕ) (ds : Text) (plain : (d == 45) ≡ false) where
   text_of_run : first_of (codes "turns") (rows_after run_rules [] behind_run) ≡ Some word
   text_of_run = ap (λ (w : Walk). first_of (codes "turns") (finished run_rules w.held)) end_is
 
+  file_of_run : first_of (codes "file") (rows_after run_rules [] behind_run) ≡ None
+  file_of_run = ap (λ (w : Walk). first_of (codes "file") (finished run_rules w.held)) end_is
+
   turn_is : turn_fault run_ready [] behind_turns word ≡ []
   turn_is = ap₂ (λ a m. or_else a (step_fault run_ready 1 m.0 m.1)) fault_is met_is
 
@@ -116,6 +119,10 @@ module _ (d : ℕ) (ds : Text) (plain : (d == 45) ≡ false) where
   unfolding clap_on_literals
   text_is program = text_of_run
 
+  no_file : (program : Text) → file_in (line program word) ≡ None
+  unfolding clap_on_literals
+  no_file program = file_of_run
+
   faults_are : (program : Text) (b : Bool) → accepts false turns_parser word ≡ b → faults_in (line program word) ≡ cond b [] (kinds.ValueValidation ∷ [])
   unfolding clap_on_literals
   faults_are program true e = ap (λ k. or_else k []) (level_is ∙ after_is true e)
@@ -131,10 +138,11 @@ no_hyphen d ds numeral = go (d == 45) refl
         let bad : 36 < 10 = (subst (λ x. IsNumeral 10 (without_leading_plus (x ∷ ds))) (eqb-true d 45 e) numeral).1.0 in
         absurd (omega (arith, bad))
 
--- what clap finds in words that give the text, by its test of the text
+-- what clap finds in words that give the text and no file, by its test of the text
 abbrev Reads : Text → List Text → Type 0
 Reads text words = ((turns : ℕ) → NamesTask words (tasks.Run turns))
     × (turns_text words ≡ Some text)
+    × (file_in words ≡ None)
     × ((b : Bool) → accepts false turns_parser text ≡ b → faults_in words ≡ cond b [] (kinds.ValueValidation ∷ []))
 
 apart_reads : (program text : Text) → IsNumeral 10 (without_leading_plus text) → Reads text (line program text)
@@ -142,11 +150,11 @@ unfolding clap_on_literals
 apart_reads program [] numeral = absurd (omega (arith, numeral.0))
 apart_reads program (d ∷ ds) numeral =
     let plain = no_hyphen d ds numeral in
-    ((λ turns. refl), text_is d ds plain program, faults_are d ds plain program)
+    ((λ turns. refl), text_is d ds plain program, no_file d ds plain program, faults_are d ds plain program)
 
 joined_reads : (program text : Text) → Reads text (program ∷ codes "run" ∷ (codes "--turns=" ++ text) ∷ [])
 unfolding clap_on_literals
-joined_reads program text = ((λ turns. refl), refl, go)
+joined_reads program text = ((λ turns. refl), refl, refl, go)
   where
     go : (b : Bool) → accepts false turns_parser text ≡ b → faults_in (program ∷ codes "run" ∷ (codes "--turns=" ++ text) ∷ []) ≡ cond b [] (kinds.ValueValidation ∷ [])
     go true e = rw e refl
@@ -156,20 +164,25 @@ run_reads : (text : Text) (words : List Text) → RunWith text words → IsNumer
 run_reads text words (program, inl is) numeral = subst (Reads text) (sym is) (apart_reads program text numeral)
 run_reads text words (program, inr is) numeral = subst (Reads text) (sym is) (joined_reads program text)
 
-right : (turns : ℕ) (text : Text) (words : List Text) → RunWith text words → Writes turns text → IsInRange turns → (faults_in words ≡ []) × AskFor words (tasks.Run turns)
+right : (turns : ℕ) (text : Text) (words : List Text) → RunWith text words → Writes turns text → IsInRange turns → AskFor words (tasks.Run turns) None
 right turns text words given writes in_range =
     let reads = run_reads text words given writes.0 in
     let bound : digits_value 10 (without_leading_plus text) ≤ 1000000 = rw (← writes.1) in_range.1 in
     let least : 1 ≤ digits_value 10 (without_leading_plus text) = rw (← writes.1) in_range.0 in
     let fits : digits_value 10 (without_leading_plus text) < 2 ^ 64 = omega arith in
     let pass = Accepts-accepts false turns_parser text (writes.0, fits, least, bound) in
-    (reads.2 true pass, (reads.0 turns, rw reads.1 writes))
+    record {
+      right = reads.3 true pass;
+      task_is = reads.0 turns;
+      turns_are = rw reads.1 writes;
+      file_is = reads.2;
+    }
 
 wrong : (turns : ℕ) (text : Text) (words : List Text) → RunWith text words → Writes turns text → (IsInRange turns → ⊥) → faults_in words ≡ kinds.ValueValidation ∷ []
 wrong turns text words given writes out = go (accepts false turns_parser text) refl
   where
     go : (b : Bool) → accepts false turns_parser text ≡ b → faults_in words ≡ kinds.ValueValidation ∷ []
-    go false e = (run_reads text words given writes.0).2 false e
+    go false e = (run_reads text words given writes.0).3 false e
     go true e =
         let pass = accepts-Accepts false turns_parser text e in
         absurd (out (rw writes.1 pass.2, rw writes.1 pass.3))

@@ -1,14 +1,15 @@
 -- What clap finds for `--turns` in words that it accepts is one number that a worker may have: each
--- use of an argument was tested when it was met, and no other argument of `run` adds a row.
+-- use of an argument was tested when it was met, and no other argument of `run` changes its row.
 use Rattle.std.proofs.Common.{◌≡◌, ◌∙◌, ◌++◌, ◌⊎◌, inl, inr, ℕ, zero, suc, Bool, true, false, true≢false, cond, refl, sym, ap, subst, List, [], ◌∷◌, length, drop, Option, Some, None, is_some, option_map, codes, fold}
 use Rattle.std.specs.Prelude.{◌&&◌, IfSome, encode_utf8, find, option_and_then, slice_get}
 use Rattle.std.specs.List.{AllByRecursion as Each, list_all, slice_index_or}
 use Rattle.std.specs.Option.{option_map_or}
 use Rattle.std.specs.Str.{bytes_eq, chars}
+use Rattle.std.proofs.lemmas.Slice.Eq.{bytes_eq-Decides}
 use Rattle.clap.specs.Lexer.{long_of, short_of}
 use Rattle.clap.specs.Values.{Accepts, read_as}
 use Rattle.clap.specs.ValueTests.{accepts}
-use Rattle.clap.specs.Walk.{Held, Names, Outcome, Row, Rule, Step, Text, Waiting, Walk, after_flag, after_step, answers_to, arg_by_id, arg_by_index, arg_by_long, arg_by_short, at_row, attached_value, bundle_met, bundle_step, done, flag_met, has_row, idle, is_pending, long_met, long_or_other, more_values, next, nothing_held, option, option_met, option_word, plain, plain_word, positional, reacted, refused, row_text, rows_after, settled, settled_rows, short_met, short_or_plain, subcommand, subcommand_met, subcommand_or_other, takes_several, takes_values, to_positional, trailing, used, used_by_id, value, waits, walk, walk_from, walked, with_default, without, word_met}
+use Rattle.clap.specs.Walk.{Held, Names, Outcome, Row, Rule, Step, Text, Waiting, Walk, after_flag, after_step, answers_to, arg_by_id, arg_by_index, arg_by_long, arg_by_short, at_row, attached_value, bundle_met, bundle_step, done, flag_met, has_row, idle, is_pending, long_met, long_or_other, more_values, next, nothing_held, option, option_met, option_word, plain, plain_word, positional, reacted, refused, row_text, rows_after, settled, settled_rows, short_met, short_or_plain, subcommand, subcommand_met, subcommand_or_other, takes_several, takes_values, to_positional, trailing, used, used_by_id, value, values_or_missing, waits, walk, walk_from, walked, with_default, without, word_met}
 use Rattle.clap.specs.Simple.{Shape, argument_words, entered, filled, help_rule, label_of, names_of, rows_at, subcommand_of, with_index}
 use Rattle.clap.specs.Kinds.{Kinds, or_else, value_kinds}
 use Rattle.clap.specs.Faults.{bundle_fault, bundle_step_fault, entered_fault, fault_of, flag_word_fault, flags_fault, level_fault, long_fault, option_fault, other_fault, positional_fault, react_fault, settle_fault, short_fault, step_fault, stray_fault, turn_fault, use_fault, values_fault, walk_fault, word_fault}
@@ -18,7 +19,7 @@ use Rattle.clap.specs.declared.error.kind.ErrorKind.TheVariants as kind
 use Rattle.clap.specs.declared.parser.matches.ValueSource.TheVariants.{CommandLine}
 use Rattle.clap.proofs.ValueTestLemmas.{accepts-Accepts}
 use Rattle.clap.proofs.WalkLemmas.{both}
-use Rattle.evc_cli.specs.CommandLine.{evc_app}
+use Rattle.evc_cli.specs.CommandLine.{evc_app, file_rule}
 use Rattle.evc_cli.specs.Turns.{PassTurns, turns_parser, turns_rule}
 use Rattle.evc_cli.proofs.CommandMet.{first_none, not_empty, ready, second_none}
 
@@ -31,6 +32,15 @@ found_each P p (x ∷ xs) h = go (p x) (find p xs) (found_each P p xs h.1)
     go : (b : Bool) (o : Option _) → IfSome o P → IfSome (cond b (Some x) o) P
     go true o more = h.0
     go false o more = more
+
+-- an element that is found has the property, and was looked for
+found_with : {X : Type 0} (P : X → Type 0) (p : X → Bool) (xs : List X) → Each P xs → IfSome (find p xs) (λ x. P x × (p x ≡ true))
+found_with P p [] h = tt
+found_with P p (x ∷ xs) h = go (p x) refl (find p xs) (found_with P p xs h.1)
+  where
+    go : (b : Bool) → p x ≡ b → (o : Option _) → IfSome o (λ y. P y × (p y ≡ true)) → IfSome (cond b (Some x) o) (λ y. P y × (p y ≡ true))
+    go true e o more = (h.0, e)
+    go false e o more = more
 
 each_joined : {X : Type 0} (P : X → Type 0) (xs ys : List X) → Each P xs → Each P ys → Each P (xs ++ ys)
 each_joined P [] ys h k = k
@@ -47,31 +57,42 @@ all_joined p (x ∷ xs) ys h k =
 abbrev passes : Text → Bool
 passes = accepts false turns_parser
 
--- the values of the row are read as they are written, and each of them is a number of turns
+abbrev is_of_turns : Row → Bool
+is_of_turns r = bytes_eq r.id (codes "turns")
+
+-- if the row is that of `--turns`, its values are read as they are written, and each of them is a
+-- number of turns
 abbrev GoodRow : Row → Type 0
-GoodRow r = (r.reading ≡ reading.AsWritten) × (list_all passes r.values ≡ true)
+GoodRow r = is_of_turns r ≡ true → (r.reading ≡ reading.AsWritten) × (list_all passes r.values ≡ true)
 
 abbrev AreGood : List Row → Type 0
 AreGood = Each GoodRow
 
--- `--turns` and `--help`, as clap has built them
+-- `FILE`, `--turns` and `--help`, as clap has built them
+abbrev file_ready : Rule
+file_ready = with_index 1 (filled file_rule)
+
 abbrev turns_ready : Rule
-turns_ready = with_index 1 (filled turns_rule)
+turns_ready = with_index 2 (filled turns_rule)
 
 abbrev help_ready : Rule
-help_ready = with_index 1 (filled help_rule)
+help_ready = with_index 2 (filled help_rule)
 
 abbrev IsOfRun : Rule → Type 0
-IsOfRun a = (a ≡ turns_ready) ⊎ (a ≡ help_ready)
+IsOfRun a = (a ≡ file_ready) ⊎ (a ≡ turns_ready) ⊎ (a ≡ help_ready)
 
-row_kept : (id : Text) (change : Row → List Row) (missing rows : List Row) → ((r : Row) → GoodRow r → AreGood (change r)) → AreGood missing → AreGood rows
-    → AreGood (at_row id change missing rows)
+row_kept : (id : Text) (change : Row → List Row) (missing rows : List Row) → ((r : Row) → bytes_eq r.id id ≡ true → GoodRow r → AreGood (change r))
+    → AreGood missing → AreGood rows → AreGood (at_row id change missing rows)
 row_kept id change missing [] c m g = m
-row_kept id change missing (r ∷ rs) c m g = go (bytes_eq r.id id) (row_kept id change missing rs c m g.1)
+row_kept id change missing (r ∷ rs) c m g = go (bytes_eq r.id id) refl (row_kept id change missing rs c m g.1)
   where
-    go : (b : Bool) → AreGood (at_row id change missing rs) → AreGood (cond b (change r ++ rs) (r ∷ at_row id change missing rs))
-    go true rest = each_joined GoodRow (change r) rs (c r g.0) g.1
-    go false rest = (g.0, rest)
+    go : (b : Bool) → bytes_eq r.id id ≡ b → AreGood (at_row id change missing rs) → AreGood (cond b (change r ++ rs) (r ∷ at_row id change missing rs))
+    go true e rest = each_joined GoodRow (change r) rs (c r e g.0) g.1
+    go false e rest = (g.0, rest)
+
+-- a row is taken off
+without_kept : (id : Text) (rows : List Row) → AreGood rows → AreGood (without id rows)
+without_kept id rows g = row_kept id (λ _. []) [] rows (λ r is good. tt) tt g
 
 -- values that all pass clap's test
 all_pass : (vs : List Text) → values_fault turns_ready vs ≡ [] → list_all passes vs ≡ true
@@ -90,12 +111,29 @@ turns_used again (v ∷ vs) rows f g =
     let pass : list_all passes (v ∷ vs) ≡ true = all_pass (v ∷ vs) (second_none _ _ (second_none _ _ f)) in
     let change : Row → List Row = more_values CommandLine (v ∷ vs) in
     let missing : List Row = record { id = codes "turns"; values = v ∷ vs; count = None; source = Some CommandLine; reading = reading.AsWritten } ∷ [] in
-    row_kept (codes "turns") change missing (without (codes "turns") rows) (λ r good. ((good.0, all_joined passes r.values (v ∷ vs) good.1 pass), tt)) ((refl, pass), tt)
-    (row_kept (codes "turns") (λ _. []) [] rows (λ r good. tt) tt g)
+    row_kept (codes "turns") change missing (without (codes "turns") rows)
+    (λ r of_turns good. ((λ is. ((good is).0, all_joined passes r.values (v ∷ vs) (good is).1 pass)), tt)) ((λ is. (refl, pass)), tt)
+    (without_kept (codes "turns") rows g)
+
+-- a row of a file is not that of `--turns`
+not_turns : (r : Row) → bytes_eq r.id (codes "file") ≡ true → is_of_turns r ≡ true → ⊥
+not_turns r of_file is =
+    let id : r.id ≡ codes "file" = (bytes_eq-Decides r.id (codes "file")).0 of_file in
+    true≢false (sym is ∙ ap (λ n. bytes_eq n (codes "turns")) id)
+
+file_used : (values : List Text) (rows : List Row) → AreGood rows → AreGood (used file_ready values rows)
+file_used values rows g =
+    let given : List Text = values_or_missing file_ready values in
+    let change : Row → List Row = more_values CommandLine given in
+    let missing : List Row = record { id = codes "file"; values = given; count = None; source = Some CommandLine; reading = reading.AsWritten } ∷ [] in
+    row_kept (codes "file") change missing (without (codes "file") rows)
+    (λ r of_file good. ((λ is. absurd (not_turns r of_file is)), tt)) ((λ is. absurd (true≢false (sym is))), tt)
+    (without_kept (codes "file") rows g)
 
 use_kept : (again : Bool) (a : Rule) → IsOfRun a → (values : List Text) (rows : List Row) → use_fault again a values rows ≡ [] → AreGood rows → AreGood (used a values rows)
-use_kept again a (inl is) values rows f g = rw is (turns_used again values rows (rw is at f) g)
-use_kept again a (inr is) values rows f g = rw is g
+use_kept again a (inl is) values rows f g = rw is (file_used values rows g)
+use_kept again a (inr (inl is)) values rows f g = rw is (turns_used again values rows (rw is at f) g)
+use_kept again a (inr (inr is)) values rows f g = rw is g
 
 -- ---- the pass over the words
 
@@ -240,8 +278,9 @@ default_kept a is rows g = subst AreGood (sym (same a is)) g
     either false = refl
 
     same : (x : Rule) → IsOfRun x → with_default rows x ≡ rows
-    same x (inl is) = rw is (either (has_row (codes "turns") rows))
-    same x (inr is) = rw is (either (has_row (codes "help") rows))
+    same x (inl is) = rw is (either (has_row (codes "file") rows))
+    same x (inr (inl is)) = rw is (either (has_row (codes "turns") rows))
+    same x (inr (inr is)) = rw is (either (has_row (codes "help") rows))
 
 defaults_kept : (rules : List Rule) → Each IsOfRun rules → (rows : List Row) → AreGood rows → AreGood (fold with_default rows rules)
 defaults_kept [] own rows g = g
@@ -264,7 +303,7 @@ is_not name other is = true≢false (sym (ap (λ n. bytes_eq n (codes "run")) is
 
 each_has_rules : Each HasRules ready.subs
 each_has_rules =
-    let of_run : HasRules (slice_index_or ready.subs 4 ready.top) = λ is. (inl refl, (inr refl, tt)) in (
+    let of_run : HasRules (slice_index_or ready.subs 4 ready.top) = λ is. (inl refl, (inr (inl refl), (inr (inr refl), tt))) in (
       λ is. absurd (is_not (codes "check") refl is),
       (
         λ is. absurd (is_not (codes "audit") refl is),
@@ -289,7 +328,7 @@ entered_rows (Some p) e = go (find (λ s. answers_to p.0 (label_of s)) ready.sub
 
 -- good rows have a text for `--turns` that passed clap's test, if they have one
 good_rows_pass : (rows : List Row) → AreGood rows → PassTurns rows
-good_rows_pass rows g = at (find (λ r. bytes_eq r.id (codes "turns")) rows) (found_each GoodRow _ rows g)
+good_rows_pass rows g = at (find is_of_turns rows) (found_with GoodRow is_of_turns rows g)
   where
     first : Option Row → Option Text
     first o = option_and_then (λ r. slice_get r.values 0) o
@@ -302,9 +341,9 @@ good_rows_pass rows g = at (find (λ r. bytes_eq r.id (codes "turns")) rows) (fo
     row how [] is pass = (refl, tt)
     row how (v ∷ vs) is pass = (ap (λ h. Some (read_as h v)) is, accepts-Accepts false turns_parser v (both (passes v) (list_all passes vs) pass).0)
 
-    at : (o : Option Row) → IfSome o GoodRow → (read o ≡ first o) × IfSome (first o) (Accepts false turns_parser)
+    at : (o : Option Row) → IfSome o (λ r. GoodRow r × (is_of_turns r ≡ true)) → (read o ≡ first o) × IfSome (first o) (Accepts false turns_parser)
     at None good = (refl, tt)
-    at (Some r) good = row r.reading r.values good.0 good.1
+    at (Some r) good = let kept = good.0 good.1 in row r.reading r.values kept.0 kept.1
 
 -- in words that clap accepts for `run`, what it finds for `--turns` is a number that a worker may
 -- have

@@ -1,7 +1,7 @@
 -- How many turns a worker of a running script has.
 use Rattle.std.specs.Prelude.{◌≡◌, ◌≤◌, ℕ, List, Option, Some, MatchOption, IfSome, codes, false, ⊤}
 use Rattle.std.specs.Str.Parse.{IsNumeral, digits_value, without_leading_plus}
-use Rattle.clap.specs.Words.{Accepts, App, Row, Rule, Text, first_of, new_app, new_rule, one_of, with_rule}
+use Rattle.clap.specs.Words.{Accepts, Row, Rule, Text, first_of, new_rule, one_of}
 use Rattle.clap.specs.declared.builder.action.ArgAction.TheVariants.{Set}
 use Rattle.clap.specs.declared.builder.value_parser.ValueParser.{ValueParser}
 use Rattle.clap.specs.declared.builder.value_parser.ValueParser.TheVariants as parsers
@@ -20,10 +20,6 @@ turns_rule = record (new_rule (codes "turns")) {
   value_names = 1;
   parser = Some turns_parser;
 }
-
--- `evc run` as clap knows it
-abbrev pub run_app : App
-run_app = with_rule (new_app (codes "run")) turns_rule
 
 -- the text is one decimal digit or more, perhaps after a plus sign, and they write the number
 abbrev pub Writes : ℕ → Text → Type 0

@@ -1,4 +1,4 @@
-//! The task that a command line gives to the program.
+//! What the program is asked to do.
 
 /// A task of the program, by its command.
 #[derive(Clone, Copy, Debug, PartialEq, Eq)]
@@ -14,4 +14,13 @@ pub enum Task {
     /// `run`: read a script, run its workers on threads, each for at most this many turns, and
     /// write the trace of what they did.
     Run(u64),
+}
+
+/// A task, and the file with its input.
+#[derive(Clone, Copy, Debug, PartialEq, Eq)]
+pub struct Request<'a> {
+    /// What is done.
+    pub task: Task,
+    /// The name of the file; without one the input is standard input.
+    pub file: Option<&'a str>,
 }

@@ -1,27 +1,54 @@
 //! Reads the command line.
-ghost use Rattle.std.specs.Prelude.{◌≡◌, IfNone, IfOk, IfSome, codes, false};
-ghost use Rattle.clap.specs.Words.{FailsBy, app_of, first_of, found_of, kind_of, new_app, rows_of, rule_of, subcommand_of, subcommand_rows_of, with_subcommand};
+ghost use Rattle.std.specs.Prelude.{◌≡◌, IfNone, IfOk, IfSome, codes, false, option_map};
+ghost use Rattle.clap.specs.Words.{FailsBy, app_of, first_of, found_of, kind_of, rows_of, rule_of};
+ghost use Rattle.clap.specs.Words.{subcommand_of, subcommand_rows_of};
 ghost use Rattle.clap.specs.declared.builder.command.Command.TheViews.{out-Command as fields_of};
-ghost use Rattle.evc_cli.specs.CommandLine.{IsOneOf, NamesTask, ReadsPlainLines, ReadsTurns, command_names, evc_app, bare_app, faults_in, name_of, status_by, texts_of, turns_text};
-ghost use Rattle.evc_cli.specs.Turns.{HasTurnsInRange, HasTurnsOf, IsInRange, IsTurnsOf, PassTurns, run_app, turns_rule};
+ghost use Rattle.evc_cli.specs.CommandLine.{IsOneOf, NamesTask, ReadsPlainLines, ReadsTurns};
+ghost use Rattle.evc_cli.specs.CommandLine.{bare_app, command_app, command_names, evc_app};
+ghost use Rattle.evc_cli.specs.CommandLine.{faults_in, file_in, file_rule, name_of, run_app};
+ghost use Rattle.evc_cli.specs.CommandLine.{status_by, texts_of, trace_app, turns_text};
+ghost use Rattle.evc_cli.specs.Turns.{HasTurnsInRange, HasTurnsOf, IsInRange, IsTurnsOf};
+ghost use Rattle.evc_cli.specs.Turns.{PassTurns, turns_rule};
 
-use crate::choice::Task;
+use crate::choice::{Request, Task};
 use crate::help;
 use clap::error::ErrorKind;
 use clap::{Arg, ArgAction, ArgMatches, Command, Error, value_parser};
 use std::alloc::{AllocError, Global};
 
-// The most turns of each worker of `run`, if the command line doesn't say.
+/// The most turns of each worker of `run`, if the command line doesn't say.
 const DEFAULT_TURNS: u64 = 10_000;
 
-// Returns a command without arguments of its own, by its name and its two helps.
-fn plain_command<'a>(alloc: Global, name: &'a str, about: &'a str, long: &'a str) -> Command<'a>
-    ensures app { app_of result ≡ new_app name.entry.now }
-    ensures local { (fields_of result).has_globals ≡ false }
+/// Returns the argument that names a file.
+fn file_argument<'a>(alloc: Global, help: &'a str) -> Arg<'a>
+    ensures rule { rule_of result ≡ file_rule }
+    ensures local { result.global ≡ false }
 {
-    Command::new(alloc, name).about(about).long_about(long)
+    Arg::new(alloc, "file")
+        .value_name("FILE")
+        .help(help)
+        .action(ArgAction::Set)
 }
 
+/// Returns the command of this name, which takes a file. The texts are its help.
+fn file_command<'a>(
+    alloc: Global,
+    name: &'a str,
+    about: &'a str,
+    long_about: &'a str,
+    file: &'a str,
+) -> Result<Command<'a>, AllocError>
+    ensures app { IfOk result (λ c. app_of c ≡ command_app name.now) }
+    ensures local { IfOk result (λ c. (fields_of c).has_globals ≡ false) }
+{
+    let file = file_argument(alloc, file);
+    Command::new(alloc, name)
+        .about(about)
+        .long_about(long_about)
+        .arg(file)
+}
+
+/// Returns the option that says how many turns each worker has.
 fn turns_argument<'a>(alloc: Global) -> Arg<'a>
     ensures rule { rule_of result ≡ turns_rule }
     ensures local { result.global ≡ false }
@@ -34,15 +61,17 @@ fn turns_argument<'a>(alloc: Global) -> Arg<'a>
         .value_parser(value_parser!(u64).range(1..=1_000_000))
 }
 
+/// Returns the command `run`.
 fn run_command<'a>(alloc: Global) -> Result<Command<'a>, AllocError>
     ensures app { IfOk result (λ c. app_of c ≡ run_app) }
     ensures local { IfOk result (λ c. (fields_of c).has_globals ≡ false) }
 {
+    let (about, text) = (help::RUN_ABOUT, help::RUN_LONG_ABOUT);
     let turns = turns_argument(alloc);
-    plain_command(alloc, "run", help::RUN_ABOUT, help::RUN_LONG_ABOUT).arg(turns)
+    file_command(alloc, "run", about, text, help::SCRIPT_FILE)?.arg(turns)
 }
 
-// Returns clap's command for the program without its subcommands.
+/// Returns the program without its commands.
 fn bare_command<'a>(alloc: Global) -> Command<'a>
     ensures { app_of result ≡ bare_app }
 {
@@ -54,42 +83,42 @@ fn bare_command<'a>(alloc: Global) -> Command<'a>
         .subcommand_required(true)
 }
 
-// Returns the command with the subcommands that read traces.
+/// Returns the program with the commands that read traces.
 fn trace_command<'a>(alloc: Global) -> Result<Command<'a>, AllocError>
-    ensures { IfOk result (λ c. app_of c ≡ with_subcommand (with_subcommand (with_subcommand bare_app (new_app (codes "check")).top) (new_app (codes "audit")).top) (new_app (codes "upgrade")).top) }
+    ensures { IfOk result (λ c. app_of c ≡ trace_app) }
 {
-    let check = plain_command(alloc, "check", help::CHECK_ABOUT, help::CHECK_LONG_ABOUT);
-    let audit = plain_command(alloc, "audit", help::AUDIT_ABOUT, help::AUDIT_LONG_ABOUT);
-    let upgrade = plain_command(
-        alloc,
-        "upgrade",
-        help::UPGRADE_ABOUT,
-        help::UPGRADE_LONG_ABOUT,
-    );
+    let (about, text) = (help::CHECK_ABOUT, help::CHECK_LONG_ABOUT);
+    let check = file_command(alloc, "check", about, text, help::TRACE_FILE)?;
+    let (about, text) = (help::AUDIT_ABOUT, help::AUDIT_LONG_ABOUT);
+    let audit = file_command(alloc, "audit", about, text, help::TRACE_FILE)?;
+    let (about, text) = (help::UPGRADE_ABOUT, help::UPGRADE_LONG_ABOUT);
+    let upgrade = file_command(alloc, "upgrade", about, text, help::TRACE_FILE)?;
     bare_command(alloc)
         .subcommand(check)?
         .subcommand(audit)?
         .subcommand(upgrade)
 }
 
-// Returns the command with all subcommands.
+/// Returns the program with its commands.
 fn evc_command<'a>(alloc: Global) -> Result<Command<'a>, AllocError>
     ensures { IfOk result (λ c. app_of c ≡ evc_app) }
 {
-    let sim = plain_command(alloc, "sim", help::SIM_ABOUT, help::SIM_LONG_ABOUT);
+    let (about, text) = (help::SIM_ABOUT, help::SIM_LONG_ABOUT);
+    let sim = file_command(alloc, "sim", about, text, help::SCRIPT_FILE)?;
     let run = run_command(alloc)?;
     trace_command(alloc)?.subcommand(sim)?.subcommand(run)
 }
 
-// Returns what clap finds in the words.
+/// Returns what clap finds in the words.
 fn matches_in<'a>(alloc: Global, words: &'a [String]) -> Result<ArgMatches<'a>, Error>
-    ensures found { IfOk result (λ m. subcommand_rows_of m ≡ subcommand_of evc_app (texts_of words.now)) }
+    ensures found { IfOk result (λ m. subcommand_rows_of m
+        ≡ subcommand_of evc_app (texts_of words.now)) }
     ensures faults { FailsBy (faults_in (texts_of words.now)) result }
 {
     evc_command(alloc)?.try_get_matches_from(words)
 }
 
-// Returns the number that was given for `--turns`, from what clap found after `run`.
+/// Returns the number that was given for `--turns`, from what clap found after `run`.
 fn turns_option(found: &ArgMatches<'_>) -> u64
     requires { PassTurns (rows_of (found_of found.now)) }
     ensures given { IsTurnsOf (first_of (codes "turns") (rows_of (found_of found.now))) result }
@@ -98,10 +127,12 @@ fn turns_option(found: &ArgMatches<'_>) -> u64
     found.get_one::<u64>("turns").unwrap_or(DEFAULT_TURNS)
 }
 
+/// Returns the task of a command, `None` if there is no command of this name.
 fn task_by_name(name: &str, found: &ArgMatches<'_>) -> Option<Task>
     requires { name.now ≡ codes "run" → PassTurns (rows_of (found_of found.now)) }
     ensures found { IfSome result (λ t. name_of t ≡ name.now) }
-    ensures turns { IfSome result (HasTurnsOf (first_of (codes "turns") (rows_of (found_of found.now)))) }
+    ensures turns { IfSome result
+        (HasTurnsOf (first_of (codes "turns") (rows_of (found_of found.now)))) }
     ensures range { IfSome result HasTurnsInRange }
     ensures unknown { IfNone result (¬ IsOneOf command_names name.now) }
 {
@@ -115,14 +146,24 @@ fn task_by_name(name: &str, found: &ArgMatches<'_>) -> Option<Task>
     }
 }
 
+/// Returns the file that clap found after a command.
+fn file_value<'a>(found: &ArgMatches<'a>) -> Option<&'a str>
+    ensures { option_map (λ f. f.now) result
+        ≡ first_of (codes "file") (rows_of (found_of found.now)) }
+{
+    found.get_str("file")
+}
+
 /// Reads the command line, whose first word is the program's name.
 ///
 /// An `Err` that is not out of memory says what is wrong with the words, or is the help or the
 /// version that they ask for. `Error::print` writes it to standard error or standard output.
-pub fn task(alloc: Global, words: &[String]) -> Result<Task, Error>
-    ensures names { IfOk result (λ t. NamesTask (texts_of words.now) t) }
-    ensures turns { IfOk result (λ t. HasTurnsOf (turns_text (texts_of words.now)) t) }
-    ensures range { IfOk result HasTurnsInRange }
+pub fn request<'a>(alloc: Global, words: &'a [String]) -> Result<Request<'a>, Error>
+    ensures names { IfOk result (λ r. NamesTask (texts_of words.now) r.task) }
+    ensures turns { IfOk result (λ r. HasTurnsOf (turns_text (texts_of words.now)) r.task) }
+    ensures range { IfOk result (λ r. HasTurnsInRange r.task) }
+    ensures file { IfOk result (λ r. option_map (λ f. f.now) r.file
+        ≡ file_in (texts_of words.now)) }
     ensures faults { FailsBy (faults_in (texts_of words.now)) result }
 {
     let matches = matches_in(alloc, words)?;
@@ -132,10 +173,13 @@ pub fn task(alloc: Global, words: &[String]) -> Result<Task, Error>
     let Some(task) = task_by_name(name, found) else {
         unreachable!()
     };
-    Ok(task)
+    Ok(Request {
+        task,
+        file: file_value(found),
+    })
 }
 
-/// Returns the exit status for a command line that gives no task.
+/// Returns the exit status for a command line that gives no request.
 pub fn status_of(error: &Error) -> u8
     ensures { result ≡ status_by (kind_of error.now) }
 {

@@ -1,6 +1,6 @@
 //! The command line: what its words ask for, if they are longer or more than a system passes to a
 //! program. tests/rows has plainer ones.
-use evc_cli::{Task, status_of, task};
+use evc_cli::{Task, request, status_of};
 use std::alloc::{AllocError, Global};
 use std::test::Fail;
 
@@ -12,12 +12,13 @@ fn add_words(alloc: Global, words: &mut Vec<String>, texts: &[&str]) -> Result<(
     Ok(())
 }
 
-/// Returns the task that the words ask for, with the exit status of a line that gives none.
+/// Returns the task that the words ask for, without its file, and the exit status of a line that
+/// gives none.
 fn answer(alloc: Global, texts: &[&str]) -> Result<(Option<Task>, u8), AllocError> {
     let mut words = Vec::new(alloc);
     add_words(alloc, &mut words, texts)?;
-    Ok(match task(alloc, words.as_slice()) {
-        Ok(task) => (Some(task), 0),
+    Ok(match request(alloc, words.as_slice()) {
+        Ok(request) => (Some(request.task), 0),
         Err(error) => (None, status_of(&error)),
     })
 }

@@ -3,12 +3,11 @@ use evc::evc_calls::{Call, Clock, Record, Reply};
 use evc::{evc_record, evc_stress};
 use judged::Count;
 use std::process::Command;
-use std::{fs::File, path::Path, thread};
+use std::{path::Path, thread};
 
 /// Fails with the note if the program doesn't accept the file.
 fn judge(program: &str, path: &Path) {
-    let text = File::open(path).expect("the record");
-    let judged = Command::new(program).arg("check").stdin(text).output().expect(program);
+    let judged = Command::new(program).arg("check").arg(path).output().expect(program);
     assert!(judged.status.success(), "{}", String::from_utf8_lossy(&judged.stderr));
 }
 

@@ -2,6 +2,7 @@
 
 import random
 
+from trying.files import TOP
 from trying.library.driver import CALLS, COMMANDS
 from trying.rows import read_rows, rows_in
 from trying.running import run
@@ -28,7 +29,7 @@ def golden(programs):
             if len(command.words) == 1 and command.words[0] in COMMANDS:
                 yield f"{row.name}, {command.words[0].decode()}", command.words[0], text
             if place + 1 < len(row.commands):
-                text = run([programs.evc, *command.words], text, None)[1]
+                text = run([programs.evc, *command.words], text, None, cwd=TOP)[1]
 
 
 def changed(chance, text, others):

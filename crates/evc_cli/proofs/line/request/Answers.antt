@@ -2,7 +2,7 @@ use Rattle.clap.specs.Words.{found_of, rows_of}
 use Rattle.evc_cli.specs.CommandLine.{texts_of}
 use Rattle.evc_cli.proofs.CommandMet.{matches_name_a_command}
 use Rattle.evc_cli.proofs.Found.{pass_at}
-use Rattle.evc_cli.proofs.line.task.Goals as goal
+use Rattle.evc_cli.proofs.line.request.Goals as goal
 
 pub unreachable-requires : goal.unreachable-requires
 unreachable-requires c =
