@@ -22,8 +22,8 @@
  *
  * THE JUDGE is a function. It is given a line with its LF, and returns 0 to go on; anything else
  * ends the judging, and is what evc_monitor_stop returns, and evc_monitor_status at once. Your
- * calls go on, unrecorded. If evc.h of the library is included first, its monitor judges each line
- * as it comes, in this process and in constant memory:
+ * calls go on, unrecorded. If evc.h of the library is included first, its monitor judges the
+ * lines, in this process:
  *
  *     evc_monitor_library judge;
  *     evc_monitor_start(&m, &c, evc_monitor_by_library, evc_monitor_library_open(&judge));

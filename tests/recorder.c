@@ -199,6 +199,8 @@ static int try_wrong(int number, const char *out) {
     case 15: evc_call_produce(a, B, 7); break;
     case 16: evc_call_consume(b, B); break;
     case 17: evc_call_consume(a, B), evc_return_done(a); break;
+    case 18: evc_call_consume(a, B), evc_return_number(a, EVC_CALLS_NUMBER_MAX + 1); break;
+    case 19: evc_call_snapshot(a, D), evc_return_values(a, large); break;
     default: evc_call_advance(NULL, F), evc_return_done(NULL); break;
     }
     evc_call_read(b, F), evc_return_number(b, 1);

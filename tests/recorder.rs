@@ -186,6 +186,8 @@ fn try_wrong(number: usize, out: &str) -> Result<(), Fault> {
         15 => a.invoke(Call::Produce(buffer, 7)),
         16 => b.invoke(Call::Consume(buffer)),
         17 => drop(a.call(Call::Consume(buffer), || Reply::Done)),
+        18 => drop(a.call(Call::Consume(buffer), || Reply::Number(NUMBER_MAX + 1))),
+        19 => drop(a.call(Call::Snapshot(d), || Reply::Values(vec![0, NUMBER_MAX + 1]))),
         _ => (),
     }
     b.call(Call::Read(e), || Reply::Number(1));

@@ -120,6 +120,8 @@ WRONG = [
     (f"a: {ROLE}", None),
     (f"b: {ROLE}", None),
     (REPLY, "a calls consume B"),
+    (f"a: {NUMBER}", "a calls consume B"),
+    (f"a: {NUMBER}", "a calls snapshot D"),
     (None, None),
 ]
 ONLY_IN_C = (2, 3, 4)  # the types of Rust have no such use
