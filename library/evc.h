@@ -86,7 +86,8 @@ uint8_t evc_calls_check(const uint8_t *calls, size_t calls_length, uint8_t *text
                         size_t notes_room, struct evc_written *written);
 
 /* MONITORS. A monitor judges histories of calls line by line, as `evc-calls watch` does, in memory that does not grow with
- * them; but the text of one that declares cells, databases or buffers is kept. It lies in memory of yours:
+ * them; but the text of one that declares cells, databases, or buffers with several producers or consumers is kept until
+ * its end. It lies in memory of yours:
  *
  *     struct evc_monitor monitor;
  *     uint8_t note[EVC_NOTES_ROOM];

@@ -72,7 +72,7 @@ SIZES = {
     "README.md": 6,
     "docs/GUIDE.md": 9,
     "docs/RECORDING.md": 10,
-    "docs/REFERENCE.md": 17,
+    "docs/REFERENCE.md": 18,
     "docs/GALLERY.md": 5,
     "docs/COMPARISON.md": 2.5,
     "docs/LIBRARY.md": 8,
@@ -86,7 +86,7 @@ SIZES = {
     "crates/": 13,
     "package/": 14,
 }
-ALL = 130
+ALL = 131
 
 
 def files():

@@ -9,7 +9,7 @@ ghost use Rattle.calls_draw.specs.Draws.{SaysOfPicture, cut_note};
 
 use crate::choice::{unknown_object, unknown_worker};
 use crate::history::FoundHistory;
-use crate::picture::Picture;
+use crate::picture::{Picture, usual_from};
 use crate::sink::{Pen, PutResult};
 use crate::svg::put_svg;
 use crate::text::put_plain;
@@ -19,11 +19,11 @@ use ec_text::{Output, write_out};
 use std::alloc::{AllocError, Global};
 use std::io::{Write, sink};
 
-/// Returns whether a text is one of histories of calls, by its first line.
+/// Returns whether a text is one of histories of calls, by how it begins.
 pub fn is_calls(text: &[u8]) -> bool
-    ensures { result ≡ starts_with nat_eq text.now (codes "evc-calls 1\n") }
+    ensures { result ≡ starts_with nat_eq text.now (codes "evc-calls") }
 {
-    text.starts_with(b"evc-calls 1\n".as_slice())
+    text.starts_with(b"evc-calls".as_slice())
 }
 
 /// What `check` says of a text.
@@ -182,11 +182,8 @@ struct Drawing {
 
 /// Returns whether a picture begins after the first event that a view asks for.
 fn is_cut(view: &CallsView<'_>, picture: &Picture<'_>) -> bool {
-    let from = picture.window().from;
-    match view.from {
-        Some(asked) => asked < from,
-        None => picture.evidence.is_none() && 0 < from,
-    }
+    let usual = usual_from(&picture.evidence, picture.events.len());
+    view.from.unwrap_or(usual) < picture.window().from
 }
 
 /// Returns the picture of a history, with this note on its text.

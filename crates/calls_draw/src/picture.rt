@@ -132,7 +132,7 @@ fn evidence_of<'a>(
     let spans = spans_of(alloc, kinds, refusal.object, &refusal.fault)?;
     Ok(Evidence {
         refusal,
-        faulty: faulty_calls(alloc, &refusal.fault)?,
+        faulty: faulty_calls(alloc, events, &refusal.fault)?,
         stairs: stairs_of(alloc, events, &spans)?,
         limits: limits_of(alloc, &refusal.fault)?,
     })
@@ -236,8 +236,8 @@ const BEFORE: usize = 4;
 /// The fewest events that are shown of a long history that is rejected.
 const FEWEST: usize = 20;
 
-/// Returns the first event that is shown if none is chosen.
-fn usual_from(evidence: &Option<Evidence<'_>>, count: usize) -> usize {
+/// Returns the first event that is shown if none is chosen, and there is room for all from it on.
+pub(crate) fn usual_from(evidence: &Option<Evidence<'_>>, count: usize) -> usize {
     match evidence {
         Some(evidence) => {
             let from = evidence.earliest().saturating_sub(BEFORE);

@@ -269,7 +269,9 @@ fn put_stair(out: &mut Pen<'_>, stair: &Stair) {
     out.put_number(stair.span.base as u64);
     out.put(b" from event ");
     out.put_number(stair.span.from as u64);
-    out.put(b", up at");
+    if !stair.rises.is_empty() {
+        out.put(b", up at");
+    }
     for rise in &stair.rises {
         out.put(b" ");
         out.put_number(*rise as u64);

@@ -44,7 +44,7 @@ impl Monitor {
     /// Returns a monitor of objects of these kinds. This allocates, and `event` does not.
     ///
     /// `spsc` has the indices of buffers of which at most one produce and at most one consume are
-    /// pending at a time. They are watched if they have room for at most 256 items.
+    /// pending at a time. They are watched if they have room for 1 to 256 items.
     pub fn open(alloc: Global, kinds: &[Kind], spsc: &[usize]) -> Result<Self, AllocError>
         ensures { IfOk result (Watches kinds.now spsc.now []) }
     {

@@ -32,7 +32,7 @@ abbrev pub is_invocation : Action → Bool
 is_invocation (Invoke k op) = true
 is_invocation (Respond reply) = false
 
--- how many calls of a history are not made: they timed out, or are pending and took no effect
+-- how many calls of a history are not made: they timed out, or are pending
 abbrev pub left_out : RecordingModel → List Placed → ℕ
 left_out r order =
     count_by (λ (e : events.Event). is_invocation e.action) r.events
@@ -41,9 +41,8 @@ left_out r order =
 abbrev pub left_note : ℕ → List ℕ
 left_note n = if n == 0 then [] else
     (if n == 1
-    then codes "1 call leaves no step: it timed out, or is pending and took no effect\n"
-    else (decimal n
-    ++ codes " calls leave no step: they timed out, or are pending and took no effect\n"))
+    then codes "1 call leaves no step: it timed out, or is pending\n"
+    else (decimal n ++ codes " calls leave no step: they timed out, or are pending\n"))
 
 abbrev pub differs_note : ℕ → List ℕ
 differs_note n =

@@ -37,7 +37,7 @@ fn count_made(limit: u64, order: &[Placed]) -> usize
         .count()
 }
 
-/// Returns how many calls leave no step: they timed out, or are pending and took no effect.
+/// Returns how many calls leave no step: they timed out, or are pending.
 fn left_out(read: &OneRead<'_>, order: &[Placed]) -> usize
     ensures { result ≡ left_out read.now.recording order.now }
 {
@@ -55,11 +55,11 @@ fn report_left_out<N: Write>(notes: &mut Output<'_, N>, count: usize)
         return;
     }
     if count == 1 {
-        notes.say(b"1 call leaves no step: it timed out, or is pending and took no effect\n");
+        notes.say(b"1 call leaves no step: it timed out, or is pending\n");
         return;
     }
     notes.put_number(count as u64);
-    notes.say(b" calls leave no step: they timed out, or are pending and took no effect\n");
+    notes.say(b" calls leave no step: they timed out, or are pending\n");
 }
 
 /// Reports that the kernel does not make a call as it was recorded.

@@ -21,4 +21,5 @@ pub use certificate::{Certificate, start_at};
 pub use checking::{LastHistory, TEXT_MAX, check, check_whole, linearize, note_unread};
 pub use counting::completed_call;
 pub use notes::{report_certificate, report_fault, report_refusal, report_undecided};
+pub use remarks::put_remarks_on;
 pub use status::Status;

@@ -1,11 +1,11 @@
 //! Remarks on awaits that are pending although their thresholds were surely reached.
-ghost use Rattle.std.specs.Prelude.{◌≡◌, [], reverse, IfOk};
+ghost use Rattle.std.specs.Prelude.{◌≡◌, [], reverse, IfOk, OnOk};
 ghost use Rattle.std.specs.List.{cons_option};
 ghost use Rattle.ec_text.specs.Puts.{Puts, IsWrittenOut};
 ghost use Rattle.calls_core.specs.Histories.{pending_calls};
 ghost use Rattle.calls_report.specs.Notes.{site_of};
 ghost use Rattle.calls_report.specs.Remarks.{remark_by, remark_on, remarks_of, remark_text};
-ghost use Rattle.calls_report.specs.Remarks.{remark_lines};
+ghost use Rattle.calls_report.specs.Remarks.{remark_lines, remarks_text};
 
 use crate::counting::pending_after;
 use crate::notes::site_of;
@@ -112,4 +112,18 @@ pub(crate) fn report_remarks<N: Write>(
     }
     put_remarks(notes, &site_of(read, 0, 0), remarks);
     notes.flush();
+}
+
+/// Puts the remarks on a history, as `check` reports them.
+pub fn put_remarks_on<W: Write>(
+    alloc: Global,
+    out: &mut Output<'_, W>,
+    read: &Read<'_>,
+) -> Result<(), AllocError>
+    ensures { OnOk result
+        (Puts out.old out.new (remarks_text read.now.number read.now.recording)) }
+{
+    let remarks = remarks_of(alloc, &read.recording)?;
+    report_remarks(out, read, &remarks);
+    Ok(())
 }

@@ -1,7 +1,14 @@
 -- The evidence of a fault: the calls that it names, and the courses of its stairs.
-use Rattle.std.specs.Prelude.{ℕ, List, [], ◌∷◌, if◌then◌else◌}
+use Rattle.std.specs.Prelude.{ℕ, Bool, false, ◌==◌, ◌&&◌, List, [], ◌∷◌, reverse, if◌then◌else◌}
+use Rattle.std.specs.List.{filter}
 use Rattle.calls_core.specs.declared.history.Kind.{Kind}
+use Rattle.calls_core.specs.declared.history.Op.{Op}
+use Rattle.calls_core.specs.declared.history.Op.TheVariants.{Produce, Consume}
+use Rattle.calls_core.specs.declared.history.Reply.{Reply}
+use Rattle.calls_core.specs.declared.history.Reply.TheVariants.{Done, Number, Timeout}
+use Rattle.calls_core.specs.declared.history.Event.{Event}
 use Rattle.calls_core.specs.declared.history.Call.{Call}
+use Rattle.calls_core.specs.Histories.{completed_calls}
 use Rattle.calls_core.specs.Linearizations.{start}
 use Rattle.calls_counts.specs.declared.fault.Fault as counts
 use Rattle.calls_counts.specs.declared.fault.Fault.TheVariants as count
@@ -46,22 +53,40 @@ abbrev pub stored_calls : cells.Fault → List Call
 stored_calls (Distinct f) = distinct_calls f
 stored_calls (Serial f) = f.gets.items
 
-abbrev pub item_calls : items.Fault → List Call
-item_calls (item.Unproduced c taken put) = c ∷ []
-item_calls (item.Overfull c put taken) = c ∷ []
-item_calls (item.Crowded c left pending) = c ∷ []
-item_calls (item.Overtaken p c before later all) = p ∷ c ∷ []
-item_calls (item.Passed p c left pending) = p ∷ c ∷ []
-item_calls (item.Squeezed q p left pending) = q ∷ p ∷ []
-item_calls (item.Overdue bounds) = []
-item_calls (item.Outrun flow steps clash) = []
+-- whether a call puts an item in or takes it out
+abbrev pub moves : ℕ → Op → Reply → Bool
+moves item (Produce v) Done = v == item
+moves item Consume (Number v) = v == item
+moves item op r = false
 
-abbrev pub faulty_calls : Fault → List Call
-faulty_calls (faults.Count f) = counted_calls f
-faulty_calls (faults.Ticket f) = drawn_calls f
-faulty_calls (faults.Units f) = f.call ∷ []
-faulty_calls (faults.Value f) = stored_calls f
-faulty_calls (faults.Items f) = item_calls f
+-- whether it does so with the item that a consume returned from the buffer k
+abbrev pub moves_as : ℕ → Reply → Call → Bool
+moves_as k (Number item) c = (c.object == k) && moves item c.op c.reply
+moves_as k Done c = false
+moves_as k Timeout c = false
+
+-- the completed calls that move the item that a consume returned, in the order of their responses
+abbrev pub item_moves : List Event → Call → List Call
+item_moves events c =
+    filter (moves_as c.object c.reply) (reverse (completed_calls (reverse events)))
+
+abbrev pub item_calls : List Event → items.Fault → List Call
+item_calls events (item.Unproduced c taken put) = item_moves events c
+item_calls events (item.Overfull c put taken) = c ∷ []
+item_calls events (item.Crowded c left pending) = c ∷ []
+item_calls events (item.Overtaken p c before later all) = p ∷ c ∷ []
+item_calls events (item.Passed p c left pending) = p ∷ c ∷ []
+item_calls events (item.Squeezed q p left pending) = q ∷ p ∷ []
+item_calls events (item.Overdue bounds) = []
+item_calls events (item.Outrun flow steps clash) = []
+
+-- of these events
+abbrev pub faulty_calls : List Event → Fault → List Call
+faulty_calls events (faults.Count f) = counted_calls f
+faulty_calls events (faults.Ticket f) = drawn_calls f
+faulty_calls events (faults.Units f) = f.call ∷ []
+faulty_calls events (faults.Value f) = stored_calls f
+faulty_calls events (faults.Items f) = item_calls events f
 
 -- THE COURSES OF ITS STAIRS
 

@@ -2,13 +2,15 @@
 ghost use Rattle.std.specs.Prelude.{◌≡◌, IfOk};
 ghost use Rattle.calls_counts.specs.Faults.{least};
 ghost use Rattle.calls_shapes.specs.Evidence.{faulty_calls, spans_of, item_calls};
+ghost use Rattle.calls_shapes.specs.Evidence.{moves, moves_as, item_moves};
 ghost use Rattle.calls_shapes.specs.Evidence.{count_spans, unit_spans, full_spans, item_spans};
 ghost use Rattle.calls_shapes.specs.Evidence.{few_span, many_span, since_span};
 
+use crate::bars::bars_of;
 use crate::stairs::{Portion, StairSpan};
 use crate::steps::{Track, start_of};
 use crate::tallies::CountFilter;
-use calls_core::{Call, Kind, Op, Reply};
+use calls_core::{Call, Event, Kind, Op, Reply};
 use calls_verdict::Fault;
 use std::alloc::{AllocError, Global};
 
@@ -31,12 +33,51 @@ fn list_calls(alloc: Global, calls: &[Call]) -> Result<Vec<Call>, AllocError>
     calls.iter().copied().collect(alloc)
 }
 
+/// Returns whether a call puts an item in or takes it out.
+fn moves(item: usize, op: Op, reply: Reply) -> bool
+    ensures { result ≡ moves item op reply }
+{
+    match (op, reply) {
+        (Op::Produce(value), Reply::Done) => value == item,
+        (Op::Consume, Reply::Number(value)) => value == item,
+        _ => false,
+    }
+}
+
+/// Returns whether a call puts the item that a consume returned into the same buffer, or takes it
+/// out.
+fn moves_as(consume: &Call, call: &Call) -> bool
+    ensures { result ≡ moves_as consume.now.object consume.now.reply call.now }
+{
+    match consume.reply {
+        Reply::Number(item) => call.object == consume.object && moves(item, call.op, call.reply),
+        Reply::Done | Reply::Timeout => false,
+    }
+}
+
+/// Returns the completed calls that move the item that a consume returned, in the order of their
+/// responses.
+fn item_moves(alloc: Global, events: &[Event], consume: &Call) -> Result<Vec<Call>, AllocError>
+    ensures { IfOk result (λ v. v.items ≡ item_moves events.now consume.now) }
+{
+    let bars = bars_of(alloc, events)?;
+    bars.completed
+        .iter()
+        .filter(|call| moves_as(consume, call))
+        .copied()
+        .collect(alloc)
+}
+
 /// Returns the calls that a fault of a buffer names.
-fn item_calls(alloc: Global, fault: &calls_buffers::Fault) -> Result<Vec<Call>, AllocError>
-    ensures { IfOk result (λ v. v.items ≡ item_calls fault.now) }
+fn item_calls(
+    alloc: Global,
+    events: &[Event],
+    fault: &calls_buffers::Fault,
+) -> Result<Vec<Call>, AllocError>
+    ensures { IfOk result (λ v. v.items ≡ item_calls events.now fault.now) }
 {
     match fault {
-        calls_buffers::Fault::Unproduced { consume, .. } => list_calls(alloc, &[*consume]),
+        calls_buffers::Fault::Unproduced { consume, .. } => item_moves(alloc, events, consume),
         calls_buffers::Fault::Overfull { call, .. } => list_calls(alloc, &[*call]),
         calls_buffers::Fault::Crowded { call, .. } => list_calls(alloc, &[*call]),
         calls_buffers::Fault::Overtaken { put, consume, .. } => list_calls(
@@ -50,9 +91,10 @@ fn item_calls(alloc: Global, fault: &calls_buffers::Fault) -> Result<Vec<Call>, 
     }
 }
 
-/// Returns the calls that a fault names, in the order in which it names them.
-pub fn faulty_calls(alloc: Global, fault: &Fault) -> Result<Vec<Call>, AllocError>
-    ensures { IfOk result (λ v. v.items ≡ faulty_calls fault.now) }
+/// Returns the calls that a fault names, in the order in which it names them. If too few produces
+/// put an item in, these are all that put it in or took it out.
+pub fn faulty_calls(alloc: Global, events: &[Event], fault: &Fault) -> Result<Vec<Call>, AllocError>
+    ensures { IfOk result (λ v. v.items ≡ faulty_calls events.now fault.now) }
 {
     match fault {
         Fault::Count(fault) => match *fault {
@@ -75,7 +117,7 @@ pub fn faulty_calls(alloc: Global, fault: &Fault) -> Result<Vec<Call>, AllocErro
                 calls_distinct::Fault::Alternate(a, b, c, d) => list_calls(alloc, &[a, b, c, d]),
             },
         },
-        Fault::Items(fault) => item_calls(alloc, fault),
+        Fault::Items(fault) => item_calls(alloc, events, fault),
     }
 }
 

@@ -43,4 +43,6 @@ header_cause line = unwrap_or (first_that (
 abbrev pub cause_of : FaultKind → List ℕ → Cause
 cause_of kinds.BadHeader line = header_cause line
 cause_of kinds.BadLine line = line_cause line
+cause_of kinds.BadName line = line_cause line
+cause_of kinds.UnknownName line = line_cause line
 cause_of _ line = causes.Other

@@ -245,7 +245,7 @@ pub(crate) fn cause_of(kind: FaultKind, line: &[u8]) -> Cause
 {
     match kind {
         FaultKind::BadHeader => header_cause(line),
-        FaultKind::BadLine => line_cause(line),
+        FaultKind::BadLine | FaultKind::BadName | FaultKind::UnknownName => line_cause(line),
         _ => Cause::Other,
     }
 }

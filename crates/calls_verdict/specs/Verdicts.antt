@@ -124,16 +124,16 @@ IsOrderedBefore kinds past k n = (kind : Kind) (m : ℕ) → slice_get kinds k �
     → IsOrdered kind (clock past) (part k (until m past)) (part k (until n past))
 
 -- the event at this position is refused: with it, object k shows the fault; and before it neither
--- this object nor another does, except for buffers whose calls are not of the class that is always
--- decided
+-- this object nor another does, except for cells that aren't decided, and for buffers whose calls
+-- are not of the class that is always decided
 pub record IsFirstRefusal (kinds : List Kind) (past : List Event) (at k : ℕ) (f : Fault) : Type 0
   where
     pub shows : HasFault kinds (until (at + 1) past) k f
     pub own : IsOrderedBefore kinds past k at
     pub before : IsCleanBefore kinds past at
 
--- this object isn't decided, and no object shows a fault, except for buffers whose calls are not of
--- the class that is always decided
+-- this object isn't decided, and no object shows a fault, except for cells that aren't decided, and
+-- for buffers whose calls are not of the class that is always decided
 pub record IsNotDecided (kinds : List Kind) (past : List Event) (u : Undecided) : Type 0 where
   pub shows : HasOpen kinds past u
   pub rest : IsCleanBefore kinds past (clock past)

@@ -16,8 +16,8 @@ pub enum Fault {
     Items(calls_buffers::Fault),
 }
 
-/// A faulty event of a history, the first one if no buffer is called. A fault of a buffer may be
-/// found late, if its calls are not of the class that is always decided.
+/// A faulty event of a history, the first one of objects that are decided. An object that isn't may
+/// have a fault that was not looked for, and a buffer one that is found late.
 #[derive(Debug, Drop)]
 pub struct Refusal {
     /// The position of the event.

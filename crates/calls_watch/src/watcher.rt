@@ -26,8 +26,9 @@ use std::alloc::Global;
 ///
 /// The histories so far are linearizable. Of the next one a prefix was read. It is linearizable,
 /// unless it calls an object that is not watched: a cell, a database, or a buffer that has not one
-/// producer and one consumer. Then its text is kept, and it is decided at its end. Apart from this
-/// text the state does not grow.
+/// producer and one consumer. Then it is decided at its end. The text of a history that declares
+/// such an object is kept. Apart from this and the lists that databases store, the state does not
+/// grow.
 #[derive(Drop)]
 pub struct Watcher {
     pub(crate) follower: Follower,

@@ -230,10 +230,11 @@ pub fn report_stop<N: Write>(
 /// the end of the text it writes how many histories and calls there were. It also writes how many
 /// other calls are pending on average when one is invoked.
 ///
-/// From the first call of a cell, a database or a buffer on, the rest of the history is only read,
-/// and at its end the whole history is decided, as by `check`. The text of such a history is kept,
-/// up to 67108864 bytes. Apart from this the state does not grow with the text. A read that fails
-/// is not tried again.
+/// From the first call of a cell, a database, or a buffer that has not one producer and one consumer
+/// on, the rest of the history is only read, and at its end the whole history is decided, as by
+/// `check`. The text of a history that declares such an object is kept, up to 67108864 bytes. Apart
+/// from this and the lists that databases store, the state does not grow with the text. A read that
+/// fails is not tried again.
 pub fn watch<R: Read, W: Write, N: Write>(
     alloc: Global,
     reader: &mut R,

@@ -33,9 +33,9 @@ use Rattle.evc_draw_engine.specs.Windows.{window_on}
 abbrev pub shapes_for : View → TraceModel → ℕ → Shapes
 shapes_for v t n = shapes t.heading.setup t.heading.groups (window_for v.range n) t.entries
 
--- whether a text is one of histories of calls, by its first line
+-- whether a text is one of histories of calls, by how it begins
 abbrev pub is_calls : List ℕ → Bool
-is_calls text = starts_with nat_eq text (codes "evc-calls 1\n")
+is_calls text = starts_with nat_eq text (codes "evc-calls")
 
 -- how many columns there are: one for each entry, and one for a faulty line, whether it has an
 -- entry or not

@@ -2,6 +2,7 @@
 use Rattle.std.specs.Prelude.{◌≡◌, ◌⊎◌, ℕ, ◌+◌, ◌-◌, ◌^◌, nat_lt, min, List, [], ◌∷◌, ◌++◌, length}
 use Rattle.std.specs.Prelude.{take, map, codes, Ok, Option, Some, None, if◌then◌else◌}
 use Rattle.std.specs.List.{flat_map}
+use Rattle.calls_core.specs.declared.history.Event.{Event}
 use Rattle.calls_core.specs.declared.history.Call.{Call}
 use Rattle.calls_core.specs.declared.history.Placed.{Placed}
 use Rattle.calls_schedule.specs.declared.job.Bound.{Bound}
@@ -35,6 +36,7 @@ use Rattle.calls_report.specs.declared.certificate.Certificate.{Certificate}
 use Rattle.calls_report.specs.Certificates.{IsCertificate}
 use Rattle.calls_report.specs.Checks.{HasOrder, IsUndecided, IsRefused}
 use Rattle.calls_report.specs.Notes.{first_line, refusal_note, site_of, undecided_note}
+use Rattle.calls_report.specs.Remarks.{remarks_text}
 use Rattle.ec_explain.specs.declared.cause.Cause.TheVariants as causes
 use Rattle.ec_explain.specs.declared.finding.Finding.{Finding}
 use Rattle.ec_explain.specs.Findings.{finding_text, line_seen, finding_at}
@@ -85,9 +87,9 @@ marks_of (faults.Items f) = item_marks f
 
 -- the positions of the events of the calls that a refusal names, and of its counts, before the
 -- first faulty event
-abbrev pub named_positions : Refusal → List ℕ
-named_positions x =
-    flat_map (ends_before x.at) (faulty_calls x.fault)
+abbrev pub named_positions : List Event → Refusal → List ℕ
+named_positions events x =
+    flat_map (ends_before x.at) (faulty_calls events x.fault)
     ++ flat_map (if_before x.at) (marks_of x.fault)
 
 -- the first 20 of some positions
@@ -132,14 +134,31 @@ cell_reason (cell.Distinct f) = distinct_reason f
 cell_reason (cell.Serial f) =
     codes "Each of these calls needs a put of its own that takes effect before it.\n"
 
+abbrev pub item_reason : items.Fault → List ℕ
+item_reason (item.Unproduced c taken put) =
+    codes "An item is taken out once for each time that it was put in, and not before.\n"
+item_reason (item.Overfull c put taken) =
+    codes "A buffer never holds more items than it has room for.\n"
+item_reason (item.Crowded c left pending) =
+    codes "A buffer never holds more items than it has room for.\n"
+item_reason (item.Squeezed q p left pending) =
+    codes "A buffer never holds more items than it has room for.\n"
+item_reason (item.Overtaken p c before later all) =
+    codes "A buffer returns its items in the order in which they were produced.\n"
+item_reason (item.Passed p c left pending) =
+    codes "A buffer returns its items in the order in which they were produced.\n"
+item_reason (item.Overdue bounds) =
+    codes "A buffer returns its items in the order in which they were produced.\n"
+item_reason (item.Outrun flow steps clash) =
+    codes "A buffer returns its items in the order in which they were produced.\n"
+
 abbrev pub reason_for : Fault → List ℕ
 reason_for (faults.Count f) = count_reason f
 reason_for (faults.Ticket f) = ticket_reason f
 reason_for (faults.Units f) =
     codes "Each p and pboth that has returned took a unit that was there or was added.\n"
 reason_for (faults.Value f) = cell_reason f
-reason_for (faults.Items f) =
-    codes "A buffer returns its items in the order in which they were produced.\n"
+reason_for (faults.Items f) = item_reason f
 
 -- what is written on a history without linearization: the certificate, as `evc-calls check` notes
 -- it; the lines that it names; and why they leave no linearization
@@ -148,7 +167,7 @@ pub record IsRefusalText (text : List ℕ) (n : ℕ) (r : RecordingModel) (x : R
     pub shown : Certificate
     pub certificate : IsCertificate r x shown
     pub is : more ≡ refusal_note (site_of n r x.object x.at) shown
-        ++ seen_lines text n r (few (named_positions x)) ++ reason_for x.fault
+        ++ seen_lines text n r (few (named_positions r.events x)) ++ reason_for x.fault
 
 -- the line of the first faulty event shows it
 abbrev pub refused_finding : ℕ → RecordingModel → Refusal → Finding
@@ -187,6 +206,10 @@ ExplainsUndecided text n r t =
 
 -- HISTORIES, ONE AFTER ANOTHER
 
+-- what is written on a linearizable history, if n is the number of the line after its `end`
+abbrev pub told : ℕ → RecordingModel → List ℕ
+told n r = ordered_text r ++ remarks_text n r
+
 -- the explanation of a text whose next history has this fault; out of memory says nothing of it
 abbrev pub IsUnread : List ℕ → TextFault → Explanation → Type 0
 IsUnread text (At n kind cause) t =
@@ -211,11 +234,11 @@ pub data ExplainsFrom (text : List ℕ) (t : Explanation) : List ℕ → ℕ →
       → ExplainsFrom text t before n ps
   last : (before : List ℕ) (n : ℕ) (ps : List (List ℕ)) (r : OneRead)
       → parse_from n Opening ps ≡ Ok r → Judges text r.number r.recorded None → r.rest ≡ [] ∷ []
-      → HasTextAndStatus (before ++ ordered_text r.recorded) Done t
+      → HasTextAndStatus (before ++ told r.number r.recorded) Done t
       → ExplainsFrom text t before n ps
   later : (before : List ℕ) (n : ℕ) (ps : List (List ℕ)) (r : OneRead)
       → parse_from n Opening ps ≡ Ok r → Judges text r.number r.recorded None
-      → ExplainsFrom text t (before ++ ordered_text r.recorded) r.number r.rest
+      → ExplainsFrom text t (before ++ told r.number r.recorded) r.number r.rest
       → ExplainsFrom text t before n ps
 
 -- of a whole text

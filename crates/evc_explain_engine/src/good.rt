@@ -1,13 +1,15 @@
 //! What is written on a good text.
 ghost use Rattle.std.specs.Prelude.{◌≡◌, ◌++◌, IfOk, length};
 ghost use Rattle.ec_text.specs.Puts.{Puts};
+ghost use Rattle.calls_report.specs.Remarks.{remarks_text};
 ghost use Rattle.evc_explain_engine.specs.Good.{begins_call, calls_in, calls_of, good_script};
 ghost use Rattle.evc_explain_engine.specs.Good.{good_text, is_invocation, ordered_text};
 ghost use Rattle.ec_script.specs.Outcome.{shown_plan};
 
 use crate::explanation::{put_count, whole};
 use calls_core::{Action, Event};
-use calls_text::Recording;
+use calls_report::put_remarks_on;
+use calls_text::{Read, Recording};
 use ec_core::{Act, Entry, Run};
 use ec_script::Plan;
 use ec_text::Output;
@@ -101,13 +103,15 @@ pub(crate) fn script_bytes(alloc: Global, plan: &Plan, more: &[u8]) -> Result<Ve
     whole(bytes, done)
 }
 
-/// Returns the text which says that calls are linearizable.
-pub(crate) fn ordered_bytes(alloc: Global, recording: &Recording) -> Result<Vec<u8>, AllocError>
-    ensures { IfOk result (λ bytes. bytes.items ≡ ordered_text recording.now) }
+/// Returns the text which says that calls are linearizable, with the remarks on them.
+pub(crate) fn ordered_bytes(alloc: Global, read: &Read<'_>) -> Result<Vec<u8>, AllocError>
+    ensures { IfOk result (λ bytes. bytes.items ≡ ordered_text read.now.recording
+        ++ remarks_text read.now.number read.now.recording) }
 {
     let mut bytes = Vec::new(alloc);
     let mut out = Output::new(&mut bytes);
-    put_ordered(&mut out, recording);
+    put_ordered(&mut out, &read.recording);
+    put_remarks_on(alloc, &mut out, read)?;
     let done = out.finish();
     out.into_writer();
     whole(bytes, done)

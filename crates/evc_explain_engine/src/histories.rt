@@ -7,21 +7,20 @@ ghost use Rattle.ec_text.specs.Puts.{Puts};
 ghost use Rattle.calls_turns.specs.declared.turn.Step.{Step};
 ghost use Rattle.calls_report.specs.Checks.{IsUndecided, IsRefused};
 ghost use Rattle.evc_explain_engine.specs.Histories.{event_line};
-ghost use Rattle.evc_explain_engine.specs.Good.{ordered_text};
 ghost use Rattle.evc_explain_engine.specs.Histories.{if_before, ends_before, named_positions, few, seen_at};
 ghost use Rattle.evc_explain_engine.specs.Histories.{seen_lines, count_reason, ticket_reason, cell_reason};
-ghost use Rattle.evc_explain_engine.specs.Histories.{distinct_reason, reason_for, ExplainsRefused};
+ghost use Rattle.evc_explain_engine.specs.Histories.{distinct_reason, item_reason, reason_for, ExplainsRefused};
 ghost use Rattle.evc_explain_engine.specs.Histories.{ExplainsUndecided, Judges, ExplainsHistories, IsUnread};
-ghost use Rattle.evc_explain_engine.specs.Histories.{open_position, first_put};
+ghost use Rattle.evc_explain_engine.specs.Histories.{open_position, first_put, told};
 ghost use Rattle.evc_explain_engine.specs.Histories.{clash_marks, item_marks, marks_of};
 
 use crate::explanation::{Explanation, explain_finding, whole};
 use crate::good::ordered_bytes;
-use calls_core::Call;
+use calls_core::{Call, Event};
 use calls_report::{report_refusal, report_undecided};
 use calls_schedule::Bound;
 use calls_shapes::faulty_calls;
-use calls_text::{Read, Recording, TextFault, read_history};
+use calls_text::{Read, TextFault, read_history};
 use calls_turns::{Clash, Step};
 use calls_verdict::{Fault, Refusal, Undecided, Verdict, decide};
 use ec_explain::{Cause, calls_finding, finding_at, line_at, put_line_seen};
@@ -124,10 +123,14 @@ fn marks_of(alloc: Global, fault: &Fault) -> Result<Vec<usize>, AllocError>
 
 /// Returns the positions of the events of the calls that a refusal names, and of its counts, before
 /// the first faulty event.
-fn named_positions(alloc: Global, refusal: &Refusal) -> Result<Vec<usize>, AllocError>
-    ensures { IfOk result (λ ps. ps.items ≡ named_positions refusal.now) }
+fn named_positions(
+    alloc: Global,
+    events: &[Event],
+    refusal: &Refusal,
+) -> Result<Vec<usize>, AllocError>
+    ensures { IfOk result (λ ps. ps.items ≡ named_positions events.now refusal.now) }
 {
-    let calls = faulty_calls(alloc, &refusal.fault)?;
+    let calls = faulty_calls(alloc, events, &refusal.fault)?;
     let mut positions = ends_of(alloc, refusal.at, calls.as_slice())?;
     let marks = marks_of(alloc, &refusal.fault)?;
     let marks = marks_before(alloc, refusal.at, &marks)?;
@@ -219,6 +222,25 @@ fn cell_reason(fault: &calls_cells::Fault) -> &'static [u8]
     }
 }
 
+/// Returns why a buffer has no linearization.
+fn item_reason(fault: &calls_buffers::Fault) -> &'static [u8]
+    ensures { result.now ≡ item_reason fault.now }
+{
+    match fault {
+        calls_buffers::Fault::Unproduced { .. } =>
+            b"An item is taken out once for each time that it was put in, and not before.\n",
+        calls_buffers::Fault::Overfull { .. }
+        | calls_buffers::Fault::Crowded { .. }
+        | calls_buffers::Fault::Squeezed { .. } =>
+            b"A buffer never holds more items than it has room for.\n",
+        calls_buffers::Fault::Overtaken { .. }
+        | calls_buffers::Fault::Passed { .. }
+        | calls_buffers::Fault::Overdue { .. }
+        | calls_buffers::Fault::Outrun { .. } =>
+            b"A buffer returns its items in the order in which they were produced.\n",
+    }
+}
+
 /// Returns why there is no linearization.
 fn reason_for(fault: &Fault) -> &'static [u8]
     ensures { result.now ≡ reason_for fault.now }
@@ -229,8 +251,7 @@ fn reason_for(fault: &Fault) -> &'static [u8]
         Fault::Units(_) =>
             b"Each p and pboth that has returned took a unit that was there or was added.\n",
         Fault::Value(fault) => cell_reason(fault),
-        Fault::Items(_) =>
-            b"A buffer returns its items in the order in which they were produced.\n",
+        Fault::Items(fault) => item_reason(fault),
     }
 }
 
@@ -245,7 +266,7 @@ fn explain_refused(
     requires { IsRefused read.now.recording refusal.now }
     ensures { IfOk result (ExplainsRefused text.now read.now.number read.now.recording) }
 {
-    let positions = named_positions(alloc, refusal)?;
+    let positions = named_positions(alloc, read.recording.events(), refusal)?;
     let mut bytes = Vec::new(alloc);
     let mut out = Output::new(&mut bytes);
     report_refusal(alloc, &mut out, read, refusal)?;
@@ -330,11 +351,12 @@ fn explain_unread(alloc: Global, fault: TextFault, text: &[u8]) -> Result<Explan
     }
 }
 
-/// Adds how many calls and workers a linearizable history has.
-fn add_ordered(alloc: Global, lines: &mut Vec<u8>, recording: &Recording) -> Result<(), AllocError>
-    ensures { OnOk result (lines.new.items ≡ lines.old.items ++ ordered_text recording.now) }
+/// Adds how many calls and workers a linearizable history has, and the remarks on it.
+fn add_ordered(alloc: Global, lines: &mut Vec<u8>, read: &Read<'_>) -> Result<(), AllocError>
+    ensures { OnOk result (lines.new.items
+        ≡ lines.old.items ++ told read.now.number read.now.recording) }
 {
-    let bytes = ordered_bytes(alloc, recording)?;
+    let bytes = ordered_bytes(alloc, read)?;
     lines.extend_from_slice(bytes.as_slice())
 }
 
@@ -354,7 +376,7 @@ pub(crate) fn explain_histories(alloc: Global, text: &[u8]) -> Result<Explanatio
         if let Some(explanation) = judge(alloc, text, &read)? {
             return Ok(explanation);
         }
-        add_ordered(alloc, &mut lines, &read.recording)?;
+        add_ordered(alloc, &mut lines, &read)?;
         number = read.number;
         rest = read.rest;
         if rest.is_empty() {

@@ -71,7 +71,7 @@ def is_name(word):
 
 def cause_of(kind, line):
     """Returns why a line has a fault of this kind, in words."""
-    if kind > 2:
+    if kind not in (1, 2, 3, 5):
         return CAUSES[kind]
     if len(line) > MOST_OF_A_LINE:
         return "more than 8192 bytes"
@@ -87,6 +87,8 @@ def cause_of(kind, line):
         return "a space too many"
     if kind == 2:
         return "no line of this form may stand here"
+    if kind > 2:
+        return CAUSES[kind]
     if line in (b"evc-trace 1", b"evc-trace 2"):
         return "a trace, for evc check"
     if line in (b"evc-script 1", b"evc-script 2"):

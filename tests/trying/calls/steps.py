@@ -75,8 +75,8 @@ def left_note(history, made):
     if count == 0:
         return b""
     if count == 1:
-        return b"1 call leaves no step: it timed out, or is pending and took no effect\n"
-    return b"%d calls leave no step: they timed out, or are pending and took no effect\n" % count
+        return b"1 call leaves no step: it timed out, or is pending\n"
+    return b"%d calls leave no step: they timed out, or are pending\n" % count
 
 
 def made_of(history, order):

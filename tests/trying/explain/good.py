@@ -18,9 +18,19 @@ def good_history(text):
     return b"The calls are linearizable: %d calls, %d workers.\n" % (calls, len(lines[2]) - 1)
 
 
-def good_output(text):
+def good_histories(text, note):
+    """Returns what is said of histories. `note` has the remarks of evc-calls check, each of which belongs after the history
+    with its line."""
+    said, last, remarks = [], 0, re.findall(rb"(?m)^(remark: line (\d+): .*\n)", note)
+    for history in re.split(rb"(?m)^(?=evc-calls)", text)[1:]:
+        first, last = last, last + history.count(b"\n")
+        said += [good_history(history), *(remark for remark, line in remarks if first < int(line) <= last)]
+    return b"".join(said)
+
+
+def good_output(text, note=b""):
     if text.startswith(b"evc-calls"):
-        return b"".join(map(good_history, re.split(rb"(?m)^(?=evc-calls)", text)[1:]))
+        return good_histories(text, note)
     lines = text.split(b"\n")
     workers = len(lines[2].split(b" ")) - 1
     if text.startswith(b"evc-script"):
