@@ -2,6 +2,7 @@
 use Rattle.std.specs.Prelude.{◌≡◌, ℕ, ◌+◌, ◌<◌, ◌≤◌, ◌==◌, nat_le, max, List, [], ◌∷◌, map}
 use Rattle.std.specs.Prelude.{if◌then◌else◌}
 use Rattle.std.specs.List.{filter}
+use Rattle.calls_core.specs.declared.history.Reply.{Reply}
 use Rattle.calls_core.specs.declared.history.Call.{Call}
 use Rattle.calls_core.specs.declared.history.PendingCall.{PendingCall}
 use Rattle.calls_core.specs.declared.history.Placed.{Placed}
@@ -46,6 +47,17 @@ calls_of ps = map (λ (p : Placed). p.call) ps
 abbrev pub last_point : ℕ → List Call → ℕ
 last_point n [] = n
 last_point n (c ∷ cs) = last_point (max n (c.first + 1)) cs
+
+-- the call with this reply, and with its response at position t
+abbrev pub with_response : ℕ → Reply → Call → Call
+with_response t r c = record {
+  worker = c.worker;
+  object = c.object;
+  op = c.op;
+  reply = r;
+  first = c.first;
+  last = t;
+}
 
 -- the calls of one object with their points, of which this is the last, 0 if there is none
 pub record ArePlacedOne (latest : ℕ) (ps : List Placed) : Type 0 where

@@ -1,8 +1,9 @@
 //! The calls of one object in order, each with its linearization point.
-ghost use Rattle.std.specs.Prelude.{◌≡◌, ◌+◌, ◌++◌, ◌∷◌, [], max, IfOk, OnOk};
-ghost use Rattle.calls_core.specs.Points.{placed_one};
+ghost use Rattle.std.specs.Prelude.{◌≡◌, ◌+◌, ◌<◌, ◌++◌, ◌∷◌, [], length, get_or, set, max, OnOk};
+ghost use Rattle.calls_core.specs.declared.history.Call.{Call};
+ghost use Rattle.calls_core.specs.Points.{placed_one, with_response};
 
-use crate::{Call, Placed};
+use crate::{Call, Placed, Reply};
 use std::alloc::{AllocError, Global};
 use std::marker::Model;
 
@@ -48,6 +49,28 @@ impl PlacedCalls {
         self.list.push(Placed { point, call })?;
         self.latest = point;
         Ok(())
+    }
+
+    /// Returns how many calls there are.
+    pub fn len(&self) -> usize
+        ensures { result ≡ length self.now }
+    {
+        self.list.len()
+    }
+
+    /// Sets what the call at index `i` returns, and the position of its response.
+    pub fn set_response(&mut self, i: usize, reply: Reply, last: usize)
+        requires { i < length self.old }
+        ensures { (d : Call) → self.new ≡ set self.old i (with_response last reply
+            (get_or self.old i d)) }
+    {
+        let Placed { point, call } = self.list[i];
+        let call = Call {
+            reply,
+            last,
+            ..call
+        };
+        self.list[i] = Placed { point, call };
     }
 
     /// Appends the calls with their points to `list`.

@@ -32,16 +32,16 @@ module _ (units : Vec ℕ Global) (events : List Event) (end : ℕ) (h : IsHisto
     held_order i k =
         has_order units (past_at i events)
         (kept_of_order units (past_at i events) (history_at kind i events h) s.end
-        (let ends = clock_at kind i events h in omega (arith, same, le)) s.order.items (order_of_kept units (past_at i events) s.end
-        s.order.items k.kept))
+        (let ends = clock_at kind i events h in omega (arith, same, le)) s.order (order_of_kept units (past_at i events) s.end
+        s.order k.kept))
 
     pub held_whole : (i : ℕ) → length events ≤ i → Holds units (past_at i events) s
-        → IsOrderOf kind (reverse events) end s.order.items
+        → IsOrderOf kind (reverse events) end s.order
     held_whole i ge k =
         let all : past_at i events ≡ reverse events = ap reverse (take_all i events ge) in
-        subst (λ t. IsOrderOf kind (reverse events) t s.order.items) same
-        (subst (λ past. IsOrderOf kind past s.end s.order.items) all
-        (order_of_kept units (past_at i events) s.end s.order.items k.kept))
+        subst (λ t. IsOrderOf kind (reverse events) t s.order) same
+        (subst (λ past. IsOrderOf kind past s.end s.order) all
+        (order_of_kept units (past_at i events) s.end s.order k.kept))
 
     pub first_fault : (i : ℕ) (d : Event) (f : Fault) → i < length events
         → IsRefusedAt units (past_at i events) (get_or events i d) f

@@ -21,6 +21,7 @@ use Rattle.calls_core.specs.Lists.{Each}
 use Rattle.calls_core.specs.Histories.{IsHistoryOf, clock, completion, pending_calls, pending_of}
 use Rattle.calls_core.specs.Histories.{without, invoked_by}
 use Rattle.calls_core.specs.Linearizations.{initial}
+use Rattle.calls_core.specs.Points.{with_response}
 use Rattle.calls_core.proofs.Lists.{each_weaker, each_append, each_both}
 use Rattle.calls_core.proofs.Counting.{one_yes}
 use Rattle.calls_core.specs.declared.pending.NotedCall.{NotedCall}
@@ -240,12 +241,12 @@ module _ (units : Vec ℕ Global) (x : Event) (past : List Event) (h : IsHistory
 -- THE INVARIANT OF THE SCAN
 
 pub scan_start : (units : Vec ℕ Global) (s : Scan) → IsOpened units.items s.bank
-    → s.pending.items ≡ [] → s.order.items ≡ [] → Holds units [] s
+    → s.pending.items ≡ [] → s.order ≡ [] → Holds units [] s
 scan_start units s opened pending order = record {
   pending = ap noted_calls pending;
   left = left_start units.items s.bank opened;
   kept = subst (IsLinearizationSoFar units [] s.end) (sym order) (kept_start units s.end);
-  places = subst (Each (IsPlaced s.end s.order.items)) (sym pending) tt;
+  places = subst (Each (IsPlaced s.end s.order)) (sym pending) tt;
 }
 
 placed_more : (t : ℕ) (cs : List Call) (c : Call) (os : List NotedCall) → Each (IsPlaced t cs) os
@@ -271,9 +272,9 @@ module _ (units : Vec ℕ Global) (x : Event) (past : List Event) (h : IsHistory
             k.left
             index short
 
-        pub placed_within : is_v o.call.op ≡ true → o.noted < length old.order.items
-        placed_within v = slice_get_within old.order.items o.noted (completion old.end Done o.call)
-            (each_got (IsPlaced old.end old.order.items) old.pending.items i o k.places at.item v)
+        pub placed_within : is_v o.call.op ≡ true → o.noted < length old.order
+        placed_within v = slice_get_within old.order o.noted (completion old.end Done o.call)
+            (each_got (IsPlaced old.end old.order) old.pending.items i o k.places at.item v)
 
 module _ (units : Vec ℕ Global) (x : Event) (past : List Event) (h : IsHistoryOf (Semaphores units)
     (x ∷ past)) (old new : Scan) (le : clock (x ∷ past) ≤ old.end) (k : Holds units past old)
@@ -284,11 +285,11 @@ module _ (units : Vec ℕ Global) (x : Event) (past : List Event) (h : IsHistory
   -- INVOCATIONS
 
   module _ (j : ℕ) (op : Op) (is : x.action ≡ Invoke j op) (pending : new.pending.items ≡ os
-      ++ record { call = invoked_by x j op; noted = length old.order.items } ∷ [])
+      ++ record { call = invoked_by x j op; noted = length old.order } ∷ [])
       (same : length new.bank.added.items ≡ length old.bank.added.items)
       (more : AreAdded old.bank new.bank op) where
     abbrev it : NotedCall
-    it = record { call = invoked_by x j op; noted = length old.order.items }
+    it = record { call = invoked_by x j op; noted = length old.order }
 
     pending_now : noted_calls new.pending.items ≡ pending_calls (x ∷ past)
     pending_now = ap noted_calls pending ∙ map-append (λ (o : NotedCall). o.call) os (it ∷ [])
@@ -298,46 +299,46 @@ module _ (units : Vec ℕ Global) (x : Event) (past : List Event) (h : IsHistory
     left_new : AreLeft units.items (x ∷ past) new.bank
     left_new = left_invoked units.items x past j op old.bank new.bank is k.left same more
 
-    pub scan_invoked_v : is_v op ≡ true → new.order.items ≡ old.order.items ++ completion old.end
+    pub scan_invoked_v : is_v op ≡ true → new.order ≡ old.order ++ completion old.end
         Done (invoked_by x j op) ∷ [] → Holds units (x ∷ past) new
     scan_invoked_v v order =
         let c = completion old.end Done (invoked_by x j op) in
-        let kept : IsLinearizationSoFar units (x ∷ past) old.end (old.order.items ++ c ∷ []) =
-        invoked_v units x past old.end h le j op old.order.items is v k.kept in
-        let placed : Each (IsPlaced old.end (old.order.items ++ c ∷ [])) (os ++ it ∷ []) =
-        each_append (IsPlaced old.end (old.order.items ++ c ∷ [])) os (it ∷ [])
-        (placed_more old.end old.order.items c os k.places) (
+        let kept : IsLinearizationSoFar units (x ∷ past) old.end (old.order ++ c ∷ []) =
+        invoked_v units x past old.end h le j op old.order is v k.kept in
+        let placed : Each (IsPlaced old.end (old.order ++ c ∷ [])) (os ++ it ∷ []) =
+        each_append (IsPlaced old.end (old.order ++ c ∷ [])) os (it ∷ [])
+        (placed_more old.end old.order c os k.places) (
           λ w.
-              get_last old.order.items c,
+              get_last old.order c,
           tt,
         ) in
         record {
           pending = pending_now;
           left = left_new;
-          kept = subst (λ t. IsLinearizationSoFar units (x ∷ past) t new.order.items) (sym end)
+          kept = subst (λ t. IsLinearizationSoFar units (x ∷ past) t new.order) (sym end)
               (subst (IsLinearizationSoFar units (x ∷ past) old.end) (sym order) kept);
-          places = subst (λ t. Each (IsPlaced t new.order.items) new.pending.items) (sym end)
+          places = subst (λ t. Each (IsPlaced t new.order) new.pending.items) (sym end)
               (subst (λ cs. Each (IsPlaced old.end cs) new.pending.items) (sym order)
-              (subst (Each (IsPlaced old.end (old.order.items ++ c ∷ []))) (sym pending) placed));
+              (subst (Each (IsPlaced old.end (old.order ++ c ∷ []))) (sym pending) placed));
         }
 
-    pub scan_invoked_other : is_v op ≡ false → new.order.items ≡ old.order.items
+    pub scan_invoked_other : is_v op ≡ false → new.order ≡ old.order
         → Holds units (x ∷ past) new
     scan_invoked_other v order =
-        let kept : IsLinearizationSoFar units (x ∷ past) old.end old.order.items =
-        invoked_other units x past old.end h le j op old.order.items is v k.kept in
-        let none : is_v op ≡ true → slice_get old.order.items (length old.order.items) ≡ Some
+        let kept : IsLinearizationSoFar units (x ∷ past) old.end old.order =
+        invoked_other units x past old.end h le j op old.order is v k.kept in
+        let none : is_v op ≡ true → slice_get old.order (length old.order) ≡ Some
         (completion old.end Done (invoked_by x j op)) = λ w. cc in
-        let placed : Each (IsPlaced old.end old.order.items) (os ++ it ∷ []) =
-        each_append (IsPlaced old.end old.order.items) os (it ∷ []) k.places (none, tt) in
+        let placed : Each (IsPlaced old.end old.order) (os ++ it ∷ []) =
+        each_append (IsPlaced old.end old.order) os (it ∷ []) k.places (none, tt) in
         record {
           pending = pending_now;
           left = left_new;
-          kept = subst (λ t. IsLinearizationSoFar units (x ∷ past) t new.order.items) (sym end)
+          kept = subst (λ t. IsLinearizationSoFar units (x ∷ past) t new.order) (sym end)
               (subst (IsLinearizationSoFar units (x ∷ past) old.end) (sym order) kept);
-          places = subst (λ t. Each (IsPlaced t new.order.items) new.pending.items) (sym end)
+          places = subst (λ t. Each (IsPlaced t new.order) new.pending.items) (sym end)
               (subst (λ cs. Each (IsPlaced old.end cs) new.pending.items) (sym order)
-              (subst (Each (IsPlaced old.end old.order.items)) (sym pending) placed));
+              (subst (Each (IsPlaced old.end old.order)) (sym pending) placed));
         }
 
   -- RESPONSES
@@ -360,11 +361,11 @@ module _ (units : Vec ℕ Global) (x : Event) (past : List Event) (h : IsHistory
         (subst (Each (λ (p : PendingCall). p.first ≡ o.call.first → ⊥)) (sym rest_is)
         (apart_rest units x past old.end h le r o.call is found_now))
 
-    rest_placed : Each (IsPlaced old.end old.order.items) rest
-    rest_placed = each_removed (IsPlaced old.end old.order.items) os i k.places
+    rest_placed : Each (IsPlaced old.end old.order) rest
+    rest_placed = each_removed (IsPlaced old.end old.order) os i k.places
 
-    its_place : Each (IsPlaced old.end old.order.items) os → IsPlaced old.end old.order.items o
-    its_place h = each_got (IsPlaced old.end old.order.items) os i o h at.item
+    its_place : Each (IsPlaced old.end old.order) os → IsPlaced old.end old.order o
+    its_place h = each_got (IsPlaced old.end old.order) os i o h at.item
 
     module _ (pending : new.pending.items ≡ rest) (same : length new.bank.added.items
         ≡ length old.bank.added.items) (taken : TakenAs old.bank new.bank o.call.op r None) where
@@ -374,11 +375,11 @@ module _ (units : Vec ℕ Global) (x : Event) (past : List Event) (h : IsHistory
       left_rest : AreLeft units.items (x ∷ past) new.bank
       left_rest = left_now units x past h r o.call is found_now old.bank new.bank k.left same taken
 
-      pub scan_other : is_v o.call.op ≡ false → new.order.items ≡ old.order.items
+      pub scan_other : is_v o.call.op ≡ false → new.order ≡ old.order
           ++ completion x.at r o.call ∷ [] → Holds units (x ∷ past) new
       scan_other v order =
           let c = completion x.at r o.call in
-          let cs = old.order.items in
+          let cs = old.order in
           let some = some_left units x past h r o.call is found_now old.bank new.bank k.left taken
           in
           let gives = bank_gives units (state_after (initial (Some (Semaphores units))) cs)
@@ -392,20 +393,24 @@ module _ (units : Vec ℕ Global) (x : Event) (past : List Event) (h : IsHistory
           record {
             pending = pending_left;
             left = left_rest;
-            kept = subst (λ t. IsLinearizationSoFar units (x ∷ past) t new.order.items) (sym end)
+            kept = subst (λ t. IsLinearizationSoFar units (x ∷ past) t new.order) (sym end)
                 (subst (IsLinearizationSoFar units (x ∷ past) old.end) (sym order) kept);
-            places = subst (λ t. Each (IsPlaced t new.order.items) new.pending.items) (sym end)
+            places = subst (λ t. Each (IsPlaced t new.order) new.pending.items) (sym end)
                 (subst (λ zs. Each (IsPlaced old.end zs) new.pending.items) (sym order)
                 (subst (Each (IsPlaced old.end (cs ++ c ∷ []))) (sym pending) placed));
           }
 
-      pub scan_v : is_v o.call.op ≡ true → new.order.items ≡ set old.order.items o.noted
-          (completion x.at r o.call) → Holds units (x ∷ past) new
-      scan_v v order =
+      pub scan_v : is_v o.call.op ≡ true → ((d : Call)
+          → new.order ≡ set old.order o.noted (with_response x.at r (get_or old.order o.noted d)))
+          → Holds units (x ∷ past) new
+      scan_v v set_response =
           let c = completion x.at r o.call in
-          let cs = old.order.items in
+          let cs = old.order in
           let here : slice_get cs o.noted ≡ Some (completion old.end Done o.call) =
           its_place k.places v in
+          let order : new.order ≡ set cs o.noted c =
+          set_response c ∙ ap (λ (z : Call). set cs o.noted (with_response x.at r z))
+          (get_or_from_slice_get cs o.noted (completion old.end Done o.call) c here) in
           let s = split_get cs o.noted (completion old.end Done o.call) here in
           let kept : IsLinearizationSoFar units (x ∷ past) old.end (s.prefix ++ c ∷ s.back) =
           responded_v units x past old.end h le r o.call is found_now s.prefix s.back v
@@ -421,10 +426,10 @@ module _ (units : Vec ℕ Global) (x : Event) (past : List Event) (h : IsHistory
           record {
             pending = pending_left;
             left = left_rest;
-            kept = subst (λ t. IsLinearizationSoFar units (x ∷ past) t new.order.items) (sym end)
+            kept = subst (λ t. IsLinearizationSoFar units (x ∷ past) t new.order) (sym end)
                 (subst (IsLinearizationSoFar units (x ∷ past) old.end) (sym (order
                 ∙ s.changed c)) kept);
-            places = subst (λ t. Each (IsPlaced t new.order.items) new.pending.items) (sym end)
+            places = subst (λ t. Each (IsPlaced t new.order) new.pending.items) (sym end)
                 (subst (λ zs. Each (IsPlaced old.end zs) new.pending.items) (sym order)
                 (subst (Each (IsPlaced old.end (set cs o.noted c))) (sym pending) placed));
           }

@@ -8,9 +8,7 @@ ghost use Rattle.calls_semaphores.specs.kept.Keeping.{is_v, IsOpened, Steps};
 ghost use Rattle.calls_semaphores.specs.Outcomes.{IsOutcome};
 
 use crate::{Bank, Fault, Outcome};
-use calls_core::{
-    Action, Call, Event, NotedCall, Op, Part, PendingCall, PlacedCalls, Reply, find_noted,
-};
+use calls_core::{Action, Event, NotedCall, Op, Part, PendingCall, PlacedCalls, Reply, find_noted};
 use std::alloc::{AllocError, Global};
 
 /// The state of the scan after the events so far.
@@ -21,7 +19,7 @@ pub(crate) struct Scan {
     /// The pending calls, each with the length of `order` at its invocation, where a v is.
     pub(crate) pending: Vec<NotedCall>,
     /// A linearization, in which a pending v has its response at `end`.
-    pub(crate) order: Vec<Call>,
+    pub(crate) order: PlacedCalls,
     /// The first position after all events.
     pub(crate) end: usize,
 }
@@ -37,12 +35,12 @@ impl Scan {
     /// Returns the scan of no events, for a bank of semaphores that have these units.
     fn new(alloc: Global, units: &Vec<usize>, end: usize) -> Result<Self, AllocError>
         ensures { IfOk result (λ s. (s.end ≡ end) × IsOpened units.now.items s.bank
-            × (s.pending.items ≡ []) × (s.order.items ≡ [])) }
+            × (s.pending.items ≡ []) × (s.order ≡ [])) }
     {
         Ok(Scan {
             bank: Bank::new(alloc, units)?,
             pending: Vec::new(alloc),
-            order: Vec::new(alloc),
+            order: PlacedCalls::new(alloc),
             end,
         })
     }
@@ -84,7 +82,7 @@ impl Scan {
         if !is_v(call.op) {
             self.order.push(call)?;
         } else if open.noted < self.order.len() {
-            self.order[open.noted] = call;
+            self.order.set_response(open.noted, reply, event.at);
         }
         Ok(None)
     }
@@ -104,17 +102,6 @@ impl Scan {
             Action::Respond(reply) => self.respond(event, reply),
         }
     }
-}
-
-/// Returns the calls with their linearization points.
-fn place_calls(alloc: Global, calls: &[Call]) -> Result<PlacedCalls, AllocError>
-    ensures { IfOk result (λ order. order ≡ calls.now) }
-{
-    let mut order = PlacedCalls::new(alloc);
-    for call in calls {
-        order.push(*call)?;
-    }
-    Ok(order)
 }
 
 /// Decides whether the calls of a bank of semaphores have a linearization.
@@ -138,5 +125,5 @@ pub fn decide(
             return Ok(Outcome::Refused(i, fault));
         }
     }
-    Ok(Outcome::Ordered(place_calls(alloc, &scan.order)?))
+    Ok(Outcome::Ordered(scan.order))
 }

@@ -101,8 +101,8 @@ IsPlaced t cs o = is_v o.call.op ≡ true → slice_get cs o.noted ≡ Some (com
 pub record Holds (units : Vec ℕ Global) (past : List Event) (s : Scan) : Type 0 where
   pub pending : noted_calls s.pending.items ≡ pending_calls past
   pub left : AreLeft units.items past s.bank
-  pub kept : IsLinearizationSoFar units past s.end s.order.items
-  pub places : Each (IsPlaced s.end s.order.items) s.pending.items
+  pub kept : IsLinearizationSoFar units past s.end s.order
+  pub places : Each (IsPlaced s.end s.order) s.pending.items
 
 abbrev pub IsStep : Vec ℕ Global → List Event → Event → Scan → Option Fault → Type 0
 IsStep units past x new None = Holds units (x ∷ past) new

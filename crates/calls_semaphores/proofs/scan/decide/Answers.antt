@@ -1,11 +1,10 @@
-use Rattle.std.proofs.Common.{◌≡◌, ◌<◌, length, reverse, ◌∷◌, ◌+◌, ◌≤◌, ◌∙◌, sym, subst, arith}
+use Rattle.std.proofs.Common.{◌≡◌, ◌<◌, length, ◌∷◌, ◌+◌, ◌≤◌, ◌∙◌, sym, subst, arith}
 use Rattle.std.proofs.Common.{get_or}
 use Rattle.calls_core.specs.declared.history.Event.{Event}
 use Rattle.calls_core.specs.declared.history.Action.TheVariants.{Invoke}
 use Rattle.calls_core.specs.declared.history.Op.TheVariants.{Advance}
 use Rattle.calls_core.specs.declared.history.Kind.TheVariants.{Semaphores}
 use Rattle.calls_core.specs.Beginnings.{past_at}
-use Rattle.calls_core.specs.Outcomes.{IsOrderOf}
 use Rattle.calls_core.specs.Histories.{clock}
 use Rattle.calls_core.proofs.Beginnings.{past_next, history_next}
 use Rattle.calls_semaphores.specs.kept.Keeping.{Holds, IsStep, Steps}
@@ -39,11 +38,9 @@ returns-in-Some c =
 
 pub returns : goal.returns
 returns c =
-    subst (IsOrderOf (Semaphores c.args.units.now) (reverse c.args.events.now) c.args.end)
-    (sym (c.in_ok-place_calls.ensures ∙ c.deref.ensures.value))
-    (held_whole c.args.units.now c.args.events.now c.args.end c.requires.history c.requires.end
+    held_whole c.args.units.now c.args.events.now c.args.end c.requires.history c.requires.end
     c.loop-i.scan c.loop-i.invariant.end c.loop-i.i
-    (omega (arith, c.loop-i-test.false, c.len-i-end.ensures)) c.loop-i.invariant.holds)
+    (omega (arith, c.loop-i-test.false, c.len-i-end.ensures)) c.loop-i.invariant.holds
 
 pub event-requires : goal.event-requires
 event-requires c = λ i. omega (

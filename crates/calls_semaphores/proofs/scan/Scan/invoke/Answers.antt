@@ -16,15 +16,15 @@ returns-then-not-is_v-clause-step c = λ is units past h le k.
       order = s.order;
       end = s.end;
     } in
-    let place : c.len-noted.result ≡ length s.order.items = omega (arith, c.len-noted.ensures) in
+    let place : c.len-noted.result ≡ length s.order = omega (arith, c.len-noted.ensures) in
     let pending : c.push.new.self.items ≡ s.pending.items ++ record {
       call =
           invoked_by c.args.event c.args.object c.args.op;
-      noted = length s.order.items;
+      noted = length s.order;
     } ∷ [] =
     subst (λ (z : PendingCall). c.push.new.self.items ≡ s.pending.items ++ record {
       call = z;
-      noted = length s.order.items;
+      noted = length s.order;
     } ∷ []) c.new-call.ensures
     (subst (λ n. c.push.new.self.items ≡ s.pending.items ++ record {
       call =
@@ -45,25 +45,25 @@ returns-clause-step c = λ is units past h le k.
           c.push-2.new.self;
       end = s.end;
     } in
-    let place : c.len-noted.result ≡ length s.order.items = omega (arith, c.len-noted.ensures) in
+    let place : c.len-noted.result ≡ length s.order = omega (arith, c.len-noted.ensures) in
     let pending : c.push.new.self.items ≡ s.pending.items ++ record {
       call =
           invoked_by c.args.event c.args.object c.args.op;
-      noted = length s.order.items;
+      noted = length s.order;
     } ∷ [] =
     subst (λ (z : PendingCall). c.push.new.self.items ≡ s.pending.items ++ record {
       call = z;
-      noted = length s.order.items;
+      noted = length s.order;
     } ∷ []) c.new-call.ensures
     (subst (λ n. c.push.new.self.items ≡ s.pending.items ++ record {
       call =
           c.new-call.result;
       noted = n;
     } ∷ []) place c.in_ok-push.ensures.items) in
-    let order : c.push-2.new.self.items ≡ s.order.items ++ completion s.end Done
+    let order : c.push-2.new.self ≡ s.order ++ completion s.end Done
     (invoked_by c.args.event c.args.object c.args.op) ∷ [] =
-    c.in_ok-push-2.ensures.items ∙ ap (λ (z : Call). s.order.items ++ z ∷ []) c.complete.ensures
-    ∙ ap (λ (z : PendingCall). s.order.items ++ completion s.end Done z ∷ [])
+    c.in_ok-push-2.ensures ∙ ap (λ (z : Call). s.order ++ z ∷ []) c.complete.ensures
+    ∙ ap (λ (z : PendingCall). s.order ++ completion s.end Done z ∷ [])
     c.new-call.ensures in
     scan_invoked_v units c.args.event past h s new le k refl c.args.object c.args.op is pending
     c.add.ensures.same (c.add.ensures.value c.requires) (sym c.is_v.ensures ∙ c.if-not-is_v.false)

@@ -1,6 +1,5 @@
-use Rattle.std.proofs.Common.{◌≡◌, ◌++◌, ◌∷◌, [], ◌∙◌, ap, sym, subst, set, refl, Some, None, true}
+use Rattle.std.proofs.Common.{◌≡◌, ◌++◌, ◌∷◌, [], ◌∙◌, sym, subst, refl, Some, None, true}
 use Rattle.std.proofs.Common.{false, arith}
-use Rattle.std.specs.Vec.{with_item}
 use Rattle.calls_core.specs.declared.history.Call.{Call}
 use Rattle.calls_core.specs.Pending.{noted_calls, IsNotedOf}
 use Rattle.calls_core.specs.Histories.{pending_of}
@@ -54,8 +53,8 @@ returns-in_ok-push-clause-step c = λ is units past h le k.
     c.complete-call.ensures c.in_default-take.ensures.value)
     (subst (λ (z : Call). is_v z.op ≡ false) c.complete-call.ensures
     (sym c.is_v.ensures ∙ c.if-not-is_v.true))
-    (subst (λ (z : Call). c.push.new.self.items ≡ s.order.items ++ z ∷ []) c.complete-call.ensures
-    c.in_ok-push.ensures.items))
+    (subst (λ (z : Call). c.push.new.self ≡ s.order ++ z ∷ []) c.complete-call.ensures
+    c.in_ok-push.ensures))
 
 pub returns-then-open-len-clause-step : goal.returns-then-open-len-clause-step
 returns-then-open-len-clause-step c = λ is units past h le k.
@@ -67,8 +66,7 @@ returns-then-open-len-clause-step c = λ is units past h le k.
     let new : Scan = record {
       bank = c.take.new.self;
       pending = c.remove-open.new.self;
-      order =
-          with_item s.order o.noted c.complete-call.result;
+      order = c.set_response.new.self;
       end = s.end;
     } in
     scan_v units c.args.event past h s new le k refl c.args.reply is c.in-Some.k o at
@@ -77,7 +75,7 @@ returns-then-open-len-clause-step c = λ is units past h le k.
     c.complete-call.ensures c.in_default-take.ensures.value)
     (subst (λ (z : Call). is_v z.op ≡ true) c.complete-call.ensures
     (sym c.is_v.ensures ∙ c.if-not-is_v.false))
-    (ap (λ (z : Call). set s.order.items o.noted z) c.complete-call.ensures))
+    c.set_response.ensures)
 
 pub returns-else-open-len-clause-step : goal.returns-else-open-len-clause-step
 returns-else-open-len-clause-step c = λ is units past h le k.
