@@ -224,11 +224,5 @@ kept_has_order start past begun slots pending reads history h =
     (omega arith) h.state) in (
       order_from 0 r.later reads,
       ordered start past end begun r.later reads pending
-          (order_from 0 r.later reads) history h.pending_is r.kept (record {
-            sorted = reads;
-            moved =
-                IsPermutation-refl reads;
-            same = λ k. refl;
-            is = refl;
-          }),
+          (order_from 0 r.later reads) history h.pending_is r.kept refl,
     )

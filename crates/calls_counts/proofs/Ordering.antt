@@ -25,7 +25,6 @@ use Rattle.calls_counts.specs.ScanStates.{Rises, IsPlaced, IsReadAt, Enough, IsS
 use Rattle.calls_counts.specs.kept.Orders.{reads_at, reads_from, order_from, IsOrdering}
 use Rattle.calls_core.proofs.Counting.{one_no}
 use Rattle.calls_core.specs.Linearizations.{KeepsOrder}
-use Rattle.calls_counts.proofs.Runs.{each_moved}
 use Rattle.calls_counts.proofs.Necessity.{after_one}
 use Rattle.calls_core.proofs.Lists.{each_weaker, each_append, each_map, each_both, each_from_none}
 use Rattle.calls_core.proofs.Lists.{each_filter, each_pair_append, each_pair_filter, each_pair_map}
@@ -344,37 +343,29 @@ legal_order start calls t a slots pending reads cs h taken o =
     (each_from_none (IsSlotAt start calls t) (λ (s : Slot). IfSome s.taken (Fits t s.moment))
     (λ i s k. k.fits) 0 slots h.slot) taken in
     let long : length (moments slots) ≡ length slots = length-map slots (λ (s : Slot). s.moment) in
-    let rs = o.sorted in
     let zero_more : start + 0 ≡ start = omega arith in
-    let read : Each (IsReadAt start t (moments slots)) rs =
-    each_moved (IsReadAt start t (moments slots)) reads rs o.moved h.read in
-    let low : Each (λ (p : PlacedRead). p.place ≤ 0 + length slots) rs =
+    let low : Each (λ (p : PlacedRead). p.place ≤ 0 + length slots) reads =
     each_weaker (IsReadAt start t (moments slots)) (λ (p : PlacedRead). p.place ≤ 0
     + length slots) (λ p k. (let le : p.place ≤ length (moments slots) = k.within in
-    omega arith)) rs read in
-    let all : IsPermutation calls (taken_calls slots ++ placed_calls rs) =
-    IsPermutation-trans calls (taken_calls slots ++ placed_calls reads)
-    (taken_calls slots ++ placed_calls rs) h.all (IsPermutation-append_right (taken_calls slots)
-    (placed_calls reads) (placed_calls rs) (IsPermutation-map (λ (p : PlacedRead). p.call) reads
-    rs o.moved)) in
-    subst (IsCountOrder start calls) (sym o.is) (record {
-      each_once = IsPermutation-trans calls (taken_calls slots ++ placed_calls rs)
-          (order_from 0 slots rs) all
+    omega arith)) reads h.read in
+    subst (IsCountOrder start calls) (sym o) (record {
+      each_once = IsPermutation-trans calls (taken_calls slots ++ placed_calls reads)
+          (order_from 0 slots reads) h.all
           (subst (λ ps. IsPermutation (taken_calls slots ++ placed_calls ps)
-          (order_from 0 slots rs)) (from_zero rs) (once_from 0 slots rs low));
-      in_order = all_pairs_from_each KeepsOrder (order_from 0 slots rs)
-          (keeps_from 0 slots rs full (each_pair_weaker Rises (λ (s z : Slot). s.moment ≤ z.moment)
-          (λ s z k. k.moments) slots h.rises)
+          (order_from 0 slots reads)) (from_zero reads) (once_from 0 slots reads low));
+      in_order = all_pairs_from_each KeepsOrder (order_from 0 slots reads)
+          (keeps_from 0 slots reads full
+          (each_pair_weaker Rises (λ (s z : Slot). s.moment ≤ z.moment) (λ s z k. k.moments) slots
+          h.rises)
           (each_weaker (IsReadAt start t (moments slots)) (Around 0 slots) (λ p k.
-          k.around) rs read)
-          (λ j. subst (EachPair (λ (p q : PlacedRead). p.call.first < q.call.last)) (sym (o.same j))
-          (each_pair_filter (λ (p q : PlacedRead). p.call.first < q.call.last)
-          (λ (p : PlacedRead). p.place == j) reads h.reads_rise)));
-      run = subst (λ n. IsCountRun n (order_from 0 slots rs)) zero_more
-          (run_from start 0 slots rs full (each_weaker (IsReadAt start t (moments slots))
+          k.around) reads h.read)
+          (λ j. each_pair_filter (λ (p q : PlacedRead). p.call.first < q.call.last)
+          (λ (p : PlacedRead). p.place == j) reads h.reads_rise));
+      run = subst (λ n. IsCountRun n (order_from 0 slots reads)) zero_more
+          (run_from start 0 slots reads full (each_weaker (IsReadAt start t (moments slots))
           (Answered start (0 + length slots)) (λ p k. (
             k.reading,
             k.gives,
             (let le : p.place ≤ length (moments slots) = k.within in omega arith),
-          )) rs read));
+          )) reads h.read));
     })

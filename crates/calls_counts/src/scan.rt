@@ -127,6 +127,6 @@ pub fn decide(
         }
     }
     complete(&mut scan.slots, &mut scan.next, &scan.pending, end);
-    let calls = order(alloc, &scan.slots, &mut scan.reads)?;
+    let calls = order(alloc, &scan.slots, &scan.reads)?;
     Ok(Outcome::Ordered(calls))
 }

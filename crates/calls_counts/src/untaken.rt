@@ -1,8 +1,6 @@
 //! The order of the calls, at the end of a scan.
-ghost use Rattle.std.specs.Prelude.{◌≡◌, ◌+◌, ◌++◌, ◌==◌, ℕ, IfOk, OnOk};
-ghost use Rattle.std.specs.List.{filter};
-ghost use Rattle.std.specs.List.Sorted.{IsPermutation, IsNonDecreasingBy};
-ghost use Rattle.calls_counts.specs.kept.Orders.{reads_at, order_from, IsOrdering, IsCut};
+ghost use Rattle.std.specs.Prelude.{◌≡◌, ◌<◌, ◌++◌, length, IfOk, OnOk};
+ghost use Rattle.calls_counts.specs.kept.Orders.{reads_at, AreLinked, IsOrdering};
 ghost use Rattle.calls_counts.specs.Scanning.{Completes};
 
 use crate::find::{fill, is_advance};
@@ -21,65 +19,67 @@ pub fn complete(slots: &mut Vec<Slot>, next: &mut Vec<usize>, pending: &[NotedCa
     }
 }
 
-/// Sorts the reads by their places; reads of one place keep their order.
-fn sort(reads: &mut Vec<PlacedRead>) -> Result<(), AllocError>
-    ensures moved { IsPermutation reads.old.items reads.new.items }
-    ensures rising { OnOk result (IsNonDecreasingBy (λ p. p.place) reads.new.items) }
-    ensures same { OnOk result ((k : ℕ) → filter (λ p. p.place == k) reads.new.items ≡ filter (λ p.
-        p.place == k) reads.old.items) }
-{
-    reads.sort_by_key(|p| p.place)
+/// For each place the reads that have it, in their order.
+#[derive(Drop)]
+struct Runs {
+    /// For each place the index of its first read, or the number of reads if it has none.
+    first: Vec<usize>,
+    /// For each read the index of the next one of its place, or the number of reads if it has none.
+    next: Vec<usize>,
 }
 
-/// Appends the reads of place `k`, which begin at index `from`, and returns where they end.
+/// Finds the reads of each of the places below `places`.
+fn find_runs(alloc: Global, reads: &[PlacedRead], places: usize) -> Result<Runs, AllocError>
+    ensures places { IfOk result (λ r. length r.first.items ≡ places) }
+    ensures linked { IfOk result (λ r. AreLinked reads.now 0 r.first.items r.next.items) }
+{
+    let none = reads.len();
+    let mut first = vec![in alloc; none; places]?;
+    let mut next = vec![in alloc; none; none]?;
+    let mut i = none;
+    while i > 0 {
+        i -= 1;
+        let place = reads[i].place;
+        if place < first.len() {
+            next[i] = first[place];
+            first[place] = i;
+        }
+    }
+    Ok(Runs { first, next })
+}
+
+/// Appends the reads of a place.
 fn push_run(
     out: &mut PlacedCalls,
     reads: &[PlacedRead],
-    from: usize,
-    k: usize,
-) -> Result<usize, AllocError>
-    requires rising { IsNonDecreasingBy (λ p. p.place) reads.now }
-    requires cut { IsCut reads.now k from }
-    ensures pushed { OnOk result (out.new ≡ out.old ++ reads_at k reads.now) }
-    ensures cut { IfOk result (IsCut reads.now (k + 1)) }
+    runs: &Runs,
+    place: usize,
+) -> Result<(), AllocError>
+    requires linked { AreLinked reads.now 0 runs.now.first.items runs.now.next.items }
+    requires place { place < length runs.now.first.items }
+    ensures { OnOk result (out.new ≡ out.old ++ reads_at place reads.now) }
 {
-    let mut j = from;
-    while j < reads.len() {
-        if reads[j].place != k {
-            return Ok(j);
-        }
-        out.push(reads[j].call)?;
-        j += 1;
+    let mut i = runs.first[place];
+    while i < reads.len() {
+        out.push(reads[i].call)?;
+        i = runs.next[i];
     }
-    Ok(j)
-}
-
-/// Merges the sorted reads and the advances of the slots, each read at its place.
-fn merge(alloc: Global, slots: &[Slot], reads: &[PlacedRead]) -> Result<PlacedCalls, AllocError>
-    requires { IsNonDecreasingBy (λ p. p.place) reads.now }
-    ensures { IfOk result (λ v. v ≡ order_from 0 slots.now reads.now) }
-{
-    let mut out = PlacedCalls::new(alloc);
-    let mut j = 0;
-    for (k, slot) in slots.iter().enumerate() {
-        j = push_run(&mut out, reads, j, k)?;
-        if let Some(call) = slot.taken {
-            out.push(call)?;
-        }
-    }
-    push_run(&mut out, reads, j, slots.len())?;
-    Ok(out)
+    Ok(())
 }
 
 /// Returns the order of the calls: each read is at its place among the slots, and the reads of one
 /// place are in the order of their responses.
-pub fn order(
-    alloc: Global,
-    slots: &[Slot],
-    reads: &mut Vec<PlacedRead>,
-) -> Result<PlacedCalls, AllocError>
-    ensures { IfOk result (IsOrdering slots.now reads.old.items) }
+pub fn order(alloc: Global, slots: &[Slot], reads: &[PlacedRead]) -> Result<PlacedCalls, AllocError>
+    ensures { IfOk result (IsOrdering slots.now reads.now) }
 {
-    sort(reads)?;
-    merge(alloc, slots, reads)
+    let runs = find_runs(alloc, reads, slots.len() + 1)?;
+    let mut out = PlacedCalls::new(alloc);
+    for (k, slot) in slots.iter().enumerate() {
+        push_run(&mut out, reads, &runs, k)?;
+        if let Some(call) = slot.taken {
+            out.push(call)?;
+        }
+    }
+    push_run(&mut out, reads, &runs, slots.len())?;
+    Ok(out)
 }

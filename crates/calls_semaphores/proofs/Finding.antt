@@ -32,8 +32,8 @@ module _ (units : Vec ℕ Global) (events : List Event) (end : ℕ) (h : IsHisto
     held_order i k =
         has_order units (past_at i events)
         (kept_of_order units (past_at i events) (history_at kind i events h) s.end
-        (let ends = clock_at kind i events h in omega (arith, same, le)) s.order (order_of_kept units (past_at i events) s.end
-        s.order k.kept))
+        (let ends = clock_at kind i events h in omega (arith, same, le)) s.order
+        (order_of_kept units (past_at i events) s.end s.order k.kept))
 
     pub held_whole : (i : ℕ) → length events ≤ i → Holds units (past_at i events) s
         → IsOrderOf kind (reverse events) end s.order

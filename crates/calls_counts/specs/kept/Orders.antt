@@ -1,7 +1,7 @@
 -- The order that the scan returns. Only the proofs and the private contracts use this.
-use Rattle.std.specs.Prelude.{◌≡◌, ◌<◌, ◌≤◌, length, ℕ, ◌+◌, ◌==◌, nat_le, List, [], ◌∷◌, ◌++◌}
-use Rattle.std.specs.List.{filter, AllWithin}
-use Rattle.std.specs.List.Sorted.{IsPermutation}
+use Rattle.std.specs.Prelude.{◌≡◌, ◌<◌, ◌≤◌, length, get_or, drop, ℕ, ◌+◌, ◌==◌, nat_le, List, []}
+use Rattle.std.specs.Prelude.{◌∷◌, ◌++◌}
+use Rattle.std.specs.List.{filter}
 use Rattle.std.specs.Option.{option_to_list}
 use Rattle.calls_core.specs.declared.history.Call.{Call}
 use Rattle.calls_counts.specs.declared.state.Slot.{Slot}
@@ -23,16 +23,25 @@ order_from k [] reads = reads_at k reads
 order_from k (s ∷ slots) reads = reads_at k reads ++ (option_to_list s.taken ++ order_from
     (k + 1) slots reads)
 
--- the calls in that order, in which the reads of one place keep their order
-pub record IsOrdering (slots : List Slot) (reads : List PlacedRead) (cs : List Call) : Type 0 where
-  pub sorted : List PlacedRead
-  pub moved : IsPermutation reads sorted
-  pub same : (k : ℕ) → filter (λ (p : PlacedRead). p.place == k) sorted ≡ filter
-      (λ (p : PlacedRead). p.place == k) reads
-  pub is : cs ≡ order_from 0 slots sorted
+abbrev pub IsOrdering : List Slot → List PlacedRead → List Call → Type 0
+IsOrdering slots reads cs = cs ≡ order_from 0 slots reads
 
--- the reads before index j have places before k, and the others do not
-pub record IsCut (reads : List PlacedRead) (k j : ℕ) : Type 0 where
+-- j is the index of the first read of place k from index i on, or the number of reads if there is
+-- none
+pub record IsNextAt (reads : List PlacedRead) (k i j : ℕ) : Type 0 where
+  pub low : i ≤ j
   pub within : j ≤ length reads
-  pub before : AllWithin (λ (p : PlacedRead). p.place < k) reads 0 j
-  pub behind : AllWithin (λ (p : PlacedRead). k ≤ p.place) reads j (length reads)
+  pub here : (d : PlacedRead) → j < length reads → (get_or reads j d).place ≡ k
+  pub rest : reads_at k (drop i reads) ≡ reads_at k (drop j reads)
+
+-- the reads from index i on are linked: first has the first one of each place, next the one after
+-- each
+pub record AreLinked (reads : List PlacedRead) (i : ℕ) (first next : List ℕ) : Type 0 where
+  pub long : length next ≡ length reads
+  pub inside : i ≤ length reads
+  pub firsts : (k : ℕ) → k < length first → IsNextAt reads k i (get_or first k 0)
+  pub after : (m : ℕ) → i ≤ m → m < length reads → m < get_or next m 0
+  pub nexts : (m : ℕ) (d : PlacedRead) → i ≤ m → m < length reads
+      → (get_or reads m d).place < length first
+      → IsNextAt reads (get_or reads m d).place (m + 1) (get_or next m 0)
+  pub others : (m : ℕ) → m < i → get_or next m 0 ≡ length reads

@@ -82,4 +82,5 @@ returns c =
     c.loop-i.invariant.skips start (completed_calls past) (clock past) s.begun s.reads.items
     c.requires.time rise holds.state)
     (subst (λ zs. IsOrdering zs s.reads.items c.in_ok-calls.calls) c.deref-2.ensures.value
-    c.in_ok-calls.ensures)
+    (subst (λ ps. IsOrdering c.deref-2.result.now ps c.in_ok-calls.calls)
+    c.deref-3.ensures.value c.in_ok-calls.ensures))
