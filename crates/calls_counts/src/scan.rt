@@ -127,6 +127,7 @@ pub fn decide(
         }
     }
     complete(&mut scan.slots, &mut scan.next, &scan.pending, end);
+    drop(scan.next);
     let calls = order(alloc, &scan.slots, &scan.reads)?;
     Ok(Outcome::Ordered(calls))
 }
