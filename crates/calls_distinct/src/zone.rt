@@ -52,6 +52,8 @@ impl<'g, 'a> Model for GroupedCall<'g, 'a> {
 /// gets of it are in one zone; a put of a value that nobody got has a zone of its own.
 #[derive(Debug, Drop)]
 pub(crate) struct Zone<'a> {
+    /// The earlier of the response of `early` and the invocation of `late`; 0 for a get of 0.
+    pub key: usize,
     /// The call.
     pub call: &'a Call,
     /// A call of its zone with the earliest response.
@@ -61,13 +63,22 @@ pub(crate) struct Zone<'a> {
 }
 
 impl<'a> Model for Zone<'a> {
+    ghost use Rattle.std.specs.Prelude.{◌≡◌};
     ghost use Rattle.calls_distinct.specs.kept.Records as records;
 
     ghost Value = { records.Zone };
+
+    ghost use Rattle.calls_distinct.specs.kept.Zones as zones;
 
     ghost view = { λ z. record {
       call = z.call.now;
       early = z.early.now;
       late = z.late.now;
     } };
+
+    ghost invariant = { λ z. z.key ≡ zones.key (record {
+      call = z.call.now;
+      early = z.early.now;
+      late = z.late.now;
+    }) };
 }

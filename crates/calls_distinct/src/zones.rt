@@ -14,13 +14,13 @@ use std::cmp::Ordering;
 /// Returns the key of a zone: the earlier of its first response and its last invocation.
 ///
 /// The key of a get of 0 is 0.
-fn key(z: &Zone) -> usize
-    ensures { result ≡ key z.now }
+fn key(call: &Call, early: &Call, late: &Call) -> usize
+    ensures { result ≡ key (record { call = call.now; early = early.now; late = late.now }) }
 {
-    if gets(0, z.call) {
+    if gets(0, call) {
         0
     } else {
-        z.early.last.min(z.late.first)
+        early.last.min(late.first)
     }
 }
 
@@ -39,9 +39,13 @@ fn rank(call: &Call) -> usize
 fn compare(x: &Zone, y: &Zone) -> Ordering
     ensures { result ≡ zone_cmp x.now y.now }
 {
-    let by_value = value(x.call).cmp(&value(y.call));
-    let by_rank = rank(x.call).cmp(&rank(y.call));
-    key(x).cmp(&key(y)).then(by_value.then(by_rank))
+    match x.key.cmp(&y.key) {
+        Ordering::Equal => {
+            let by_value = value(x.call).cmp(&value(y.call));
+            by_value.then(rank(x.call).cmp(&rank(y.call)))
+        }
+        by_key => by_key,
+    }
 }
 
 /// Returns whether this is a completed call, or a pending put of a value that was got.
@@ -57,10 +61,13 @@ fn zone_of<'a>(z: &GroupedCall<'_, 'a>) -> Zone<'a>
     ensures { result ≡ zone_of z.now }
 {
     let group = z.group;
+    let early = if group.got { group.early } else { z.call };
+    let late = if group.got { group.late } else { z.call };
     Zone {
+        key: key(z.call, early, late),
         call: z.call,
-        early: if group.got { group.early } else { z.call },
-        late: if group.got { group.late } else { z.call },
+        early,
+        late,
     }
 }
 
@@ -91,6 +98,6 @@ pub(crate) fn sort_zones<'a>(
     ensures sorted { IfOk result (λ v. EachPair NotAfter v.items) }
 {
     let mut order = zones(alloc, zs, end)?;
-    order.sort_by(|x, y| compare(x, y))?;
+    order.sort_unstable_by(|x, y| compare(x, y));
     Ok(order)
 }
