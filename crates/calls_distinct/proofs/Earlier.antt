@@ -24,9 +24,7 @@ use Rattle.calls_core.proofs.Counting.{one, count_cons, count_append}
 use Rattle.calls_core.proofs.Beginnings.{past_split, history_at, orders_before}
 use Rattle.calls_distinct.specs.declared.cell.Fault.{Fault}
 use Rattle.calls_distinct.specs.declared.cell.Fault.TheVariants.{Nowhere, Stale, Alternate}
-use Rattle.calls_distinct.specs.declared.verdict.Verdict.{Verdict}
-use Rattle.calls_distinct.specs.declared.verdict.Verdict.TheVariants.{Ordered, Faulty}
-use Rattle.calls_distinct.specs.kept.Verdicts.{IsVerdict}
+use Rattle.calls_distinct.specs.kept.Verdicts.{IsFaultOf}
 use Rattle.calls_distinct.specs.Cells.{IsStore, IsStoreHistory, put_call, put_pending, times, gets}
 use Rattle.calls_distinct.specs.Cells.{IsDistinctHistory, Shows}
 use Rattle.calls_distinct.proofs.Accesses.{same_history}
@@ -163,39 +161,28 @@ search_start events n fault e s = record {
   shows = shows_whole events n fault e s;
 }
 
-pub search_up : (events : List Event) (low middle high newLow newHigh : ℕ) (fault newFault : Fault)
-    (v : Verdict) (cs : List Call) → IsSearched events low high fault
-    → IsVerdict (past_at middle events) (clock (past_at middle events)) v → v ≡ Ordered cs
-    → middle < high
-    → newLow ≡ middle → newHigh ≡ high → newFault ≡ fault
-    → IsSearched events newLow newHigh newFault
-search_up events low middle high newLow newHigh fault newFault v cs s h e lt el eh ef =
-    let order = subst (IsVerdict (past_at middle events) (clock (past_at middle events))) e h in
-    subst (λ l. IsSearched events l newHigh newFault) (sym el)
-    (subst (λ k. IsSearched events middle k newFault) (sym eh)
-    (subst (IsSearched events middle high) (sym ef) (record {
-      apart = lt;
-      within = s.within;
-      order = λ kind store. (cs, order kind store);
-      shows = s.shows;
-    })))
+pub search_up : (events : List Event) (low middle high : ℕ) (fault : Fault) (found : Option Fault)
+    → IsSearched events low high fault → IsFaultOf (past_at middle events) found → found ≡ None
+    → middle < high → IsSearched events middle high fault
+search_up events low middle high fault found s h e below = record {
+  apart = below;
+  within = s.within;
+  order = subst (IsFaultOf (past_at middle events)) e h;
+  shows = s.shows;
+}
 
-pub search_down : (events : List Event) (low middle high newLow newHigh : ℕ)
-    (fault newFault found : Fault) (v : Verdict) → IsSearched events low high fault
-    → IsVerdict (past_at middle events) (clock (past_at middle events)) v → v ≡ Faulty found
-    → low < middle → middle < high
-    → newLow ≡ low → newHigh ≡ middle → newFault ≡ found → IsSearched events newLow newHigh newFault
-search_down events low middle high newLow newHigh fault newFault found v s h e lt ls el eh ef =
-    let shows = subst (IsVerdict (past_at middle events) (clock (past_at middle events))) e h in
+pub search_down : (events : List Event) (low middle high : ℕ) (fault new : Fault)
+    (found : Option Fault) → IsSearched events low high fault
+    → IsFaultOf (past_at middle events) found → found ≡ Some new → low < middle → middle < high
+    → IsSearched events low middle new
+search_down events low middle high fault new found s h e above below =
     let within = s.within in
-    subst (λ l. IsSearched events l newHigh newFault) (sym el)
-    (subst (λ k. IsSearched events low k newFault) (sym eh)
-    (subst (IsSearched events low middle) (sym ef) (record {
-      apart = lt;
+    record {
+      apart = above;
       within = omega arith;
       order = s.order;
-      shows = shows;
-    })))
+      shows = subst (IsFaultOf (past_at middle events)) e h;
+    }
 
 pub middle_between : (low high : ℕ) → low < high → 1 < high - low → (low < low + (high - low) / 2)
     × (low + (high - low) / 2 < high)

@@ -306,7 +306,7 @@ every_one_decided kind past t store history distinct le =
             | inl kept ↦ inl (
               zone_calls s.0,
               order_is past t h le distinct g.0 g.1 none s.0 s.1 s.2
-                  kept (zone_calls s.0) refl kind store,
+                  kept kind store,
             )
             | inr c ↦ inr (
               crossing_fault c.0 c.1,

@@ -16,8 +16,8 @@ use Rattle.calls_distinct.specs.declared.zone.Zone.{Zone}
 use Rattle.calls_distinct.specs.Cells.{IsStore, IsStoreHistory, IsDistinctHistory, Shows, value}
 use Rattle.calls_distinct.specs.Outcomes.{IsRepeated}
 use Rattle.calls_distinct.specs.kept.Zones.{NotAfter, zone_calls, AreCrossed, crossing_fault, KeepZoneOrder}
-use Rattle.calls_distinct.specs.kept.Groups.{repeats, lacks_put, zones_of}
-use Rattle.calls_distinct.specs.kept.Verdicts.{AreGroupedOf}
+use Rattle.calls_distinct.specs.kept.Groups.{repeats, lacks_put, zones_of, AreGrouped}
+use Rattle.calls_distinct.specs.kept.Verdicts.{AreGroupedOf, calls_of_history}
 use Rattle.calls_distinct.proofs.Accesses.{AreAccesses, zero_first, accesses_of}
 use Rattle.calls_distinct.proofs.Checked.{ordered, crossed_shows}
 use Rattle.calls_distinct.proofs.Verdicts.{all_distinct, is_repeated, in_time, from_nowhere}
@@ -42,13 +42,19 @@ module _ (past : List Event) (t : ℕ) (h : IsStoreHistory past) (le : clock pas
         (are_sorted (completed_calls past) (pending_calls past) t zs grouped given order moved
         pairs) x z c
 
-    pub order_is : EachPair KeepZoneOrder order → (cs : List Call) → cs ≡ zone_calls order
-        → (kind : Kind) → IsStore kind → IsOrderOf kind past t cs
-    order_is kept cs e kind store = subst (IsOrderOf kind past t) (sym e)
-        (ordered (completed_calls past) (pending_calls past) t given distinct
+    pub order_is : EachPair KeepZoneOrder order → (kind : Kind) → IsStore kind
+        → IsOrderOf kind past t (zone_calls order)
+    order_is kept kind store = ordered (completed_calls past) (pending_calls past) t given distinct
         (in_time (completed_calls past) (pending_calls past) t zs grouped none) order
         (are_sorted (completed_calls past) (pending_calls past) t zs grouped given order moved
-        pairs) (initial (Some kind)) (zero_first kind store) kept)
+        pairs) (initial (Some kind)) (zero_first kind store) kept
+
+-- grouped calls of a history, in a list that is equal to theirs
+pub grouped_of : (past : List Event) (t : ℕ) (calls : List Call) (zs same : List GroupedCall)
+    → calls ≡ calls_of_history past t → same ≡ zs → AreGrouped calls calls zs
+    → AreGroupedOf past t same
+grouped_of past t calls zs same is e h = subst (AreGroupedOf past t) (sym e)
+    (subst (λ (cs : List Call). AreGrouped cs cs zs) is h)
 
 pub history_distinct : (past : List Event) (t : ℕ) (zs : List GroupedCall) → AreGroupedOf past t zs
     → Each (λ (z : GroupedCall). repeats z ≡ false) zs → IsDistinctHistory past

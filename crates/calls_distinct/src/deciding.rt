@@ -6,34 +6,40 @@ ghost use Rattle.calls_core.specs.Beginnings.{past_at};
 ghost use Rattle.calls_core.specs.Outcomes.{IsFirstFault};
 ghost use Rattle.calls_distinct.specs.Cells.{IsStore, IsStoreHistory, IsDistinctHistory, Shows};
 ghost use Rattle.calls_distinct.specs.Outcomes.{IsOutcome};
-ghost use Rattle.calls_distinct.specs.kept.Verdicts.{AreGroupedOf, IsVerdict};
+ghost use Rattle.calls_distinct.specs.kept.Verdicts.{IsFaultOf};
 
 use crate::groups::{group_calls, groups_of};
 use crate::history::calls_in;
 use crate::reading::value;
 use crate::searching::{events_up_to, next_between};
 use crate::testing::first_repeated;
-use crate::verdict::{Verdict, judge};
-use crate::zone::GroupedCall;
+use crate::verdict::{Verdict, calls_of, judge};
 use crate::{Fault, Outcome};
 use calls_core::{Call, Op, Part};
 use std::alloc::{AllocError, Global};
 
-/// Judges the first n events.
-fn judge_beginning(alloc: Global, events: &Part<'_, '_>, n: usize) -> Result<Verdict, AllocError>
+/// Finds a fault that the first n events show.
+fn fault_of_beginning(
+    alloc: Global,
+    events: &Part<'_, '_>,
+    n: usize,
+) -> Result<Option<Fault>, AllocError>
     requires store { IsStoreHistory (reverse events.now) }
     requires distinct { IsDistinctHistory (reverse events.now) }
     requires room { clock (reverse events.now) ≤ usize.MAX }
     requires some { 0 < n }
     requires within { n ≤ length events.now }
-    ensures { IfOk result (IsVerdict (past_at n events.now) (clock (past_at n events.now))) }
+    ensures { IfOk result (IsFaultOf (past_at n events.now)) }
 {
     let end = events.at(n - 1).at + 1;
     let beginning = events.first(n);
     let calls = calls_in(alloc, &beginning, end)?;
     let groups = groups_of(alloc, &calls)?;
     let zs = group_calls(alloc, &calls, &groups)?;
-    judge(alloc, &zs, end)
+    match judge(alloc, &zs, end)? {
+        Verdict::Ordered(_) => Ok(None),
+        Verdict::Faulty(fault) => Ok(Some(fault)),
+    }
 }
 
 /// Returns the position at which the value of a call is known: that of the invocation of a put.
@@ -78,12 +84,12 @@ fn first_fault(
     while 1 < high - low {
         let named = events_up_to(events, latest(&fault));
         let n = next_between(low, high, named, halves);
-        match judge_beginning(alloc, events, n)? {
-            Verdict::Ordered(_) => {
+        match fault_of_beginning(alloc, events, n)? {
+            None => {
                 low = n;
                 halves = false;
             }
-            Verdict::Faulty(earlier) => {
+            Some(earlier) => {
                 high = n;
                 halves = !halves;
                 fault = earlier;
@@ -91,31 +97,6 @@ fn first_fault(
         }
     }
     Ok((low, fault))
-}
-
-/// Decides the calls of the events, each given with the group of its value.
-fn decide_grouped(
-    alloc: Global,
-    events: &Part<'_, '_>,
-    zs: &[GroupedCall<'_, '_>],
-    end: usize,
-) -> Result<Outcome, AllocError>
-    requires history { IsStoreHistory (reverse events.now) }
-    requires end { clock (reverse events.now) ≤ end }
-    requires grouped { AreGroupedOf (reverse events.now) end zs.now }
-    ensures { IfOk result (IsOutcome events.now end) }
-{
-    if let Some(z) = first_repeated(zs) {
-        let group = z.group;
-        return Ok(Outcome::Repeated(value(z.call), group.put));
-    }
-    match judge(alloc, zs, end)? {
-        Verdict::Ordered(calls) => Ok(Outcome::Ordered(calls)),
-        Verdict::Faulty(fault) => {
-            let (index, fault) = first_fault(alloc, events, fault)?;
-            Ok(Outcome::Refused(index, fault))
-        }
-    }
 }
 
 /// Decides whether the calls of one cell, or of one database, have a linearization.
@@ -130,5 +111,18 @@ pub fn decide(alloc: Global, events: &Part<'_, '_>, end: usize) -> Result<Outcom
     let calls = calls_in(alloc, events, end)?;
     let groups = groups_of(alloc, &calls)?;
     let zs = group_calls(alloc, &calls, &groups)?;
-    decide_grouped(alloc, events, &zs, end)
+    if let Some(z) = first_repeated(&zs) {
+        let group = z.group;
+        return Ok(Outcome::Repeated(value(z.call), group.put));
+    }
+    let verdict = judge(alloc, &zs, end)?;
+    drop(zs);
+    drop(groups);
+    match verdict {
+        Verdict::Ordered(order) => Ok(Outcome::Ordered(calls_of(alloc, &order)?)),
+        Verdict::Faulty(fault) => {
+            let (index, fault) = first_fault(alloc, events, fault)?;
+            Ok(Outcome::Refused(index, fault))
+        }
+    }
 }

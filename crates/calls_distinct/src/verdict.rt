@@ -14,17 +14,17 @@ use crate::zones::sort_zones;
 use calls_core::PlacedCalls;
 use std::alloc::{AllocError, Global};
 
-/// A linearization, or the fault that shows that there is none.
+/// Zones in the order of a linearization, or the fault that shows that there is none.
 #[derive(Debug, Drop)]
-pub(crate) enum Verdict {
-    /// The calls have this linearization.
-    Ordered(PlacedCalls),
+pub(crate) enum Verdict<'a> {
+    /// The calls of these zones, in their order, are a linearization.
+    Ordered(Vec<Zone<'a>>),
     /// The calls show this fault.
     Faulty(Fault),
 }
 
 /// Lists the calls of the zones, in their order.
-fn calls_of(alloc: Global, zs: &[Zone]) -> Result<PlacedCalls, AllocError>
+pub(crate) fn calls_of(alloc: Global, zs: &[Zone]) -> Result<PlacedCalls, AllocError>
     ensures { IfOk result (λ v. v ≡ zone_calls zs.now) }
 {
     let mut calls = PlacedCalls::new(alloc);
@@ -34,8 +34,12 @@ fn calls_of(alloc: Global, zs: &[Zone]) -> Result<PlacedCalls, AllocError>
     Ok(calls)
 }
 
-/// Orders the calls, or finds a fault.
-pub(crate) fn judge(alloc: Global, zs: &[GroupedCall], end: usize) -> Result<Verdict, AllocError>
+/// Orders the zones of the calls, or finds a fault.
+pub(crate) fn judge<'a>(
+    alloc: Global,
+    zs: &[GroupedCall<'_, 'a>],
+    end: usize,
+) -> Result<Verdict<'a>, AllocError>
     ensures { IfOk result (λ v. (past : List Event) → IsStoreHistory past → clock past ≤ end
         → IsDistinctHistory past → AreGroupedOf past end zs.now → IsVerdict past end v) }
 {
@@ -45,6 +49,6 @@ pub(crate) fn judge(alloc: Global, zs: &[GroupedCall], end: usize) -> Result<Ver
     let order = sort_zones(alloc, zs, end)?;
     match crossing(&order) {
         Some((x, z)) => Ok(Verdict::Faulty(crossing_fault(x, z))),
-        None => Ok(Verdict::Ordered(calls_of(alloc, &order)?)),
+        None => Ok(Verdict::Ordered(order)),
     }
 }

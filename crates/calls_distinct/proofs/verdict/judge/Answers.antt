@@ -1,10 +1,10 @@
-use Rattle.std.proofs.Common.{◌∙◌, ap, sym, subst, List}
+use Rattle.std.proofs.Common.{sym, subst, List}
 use Rattle.calls_core.specs.Lists.{EachPair}
 use Rattle.calls_distinct.specs.declared.cell.Fault.TheVariants.{Nowhere}
 use Rattle.calls_distinct.specs.declared.zone.GroupedCall.{GroupedCall}
 use Rattle.calls_distinct.specs.declared.zone.Zone.{Zone}
 use Rattle.calls_distinct.specs.Cells.{Shows}
-use Rattle.calls_distinct.specs.kept.Zones.{KeepZoneOrder, AreCrossed, zone_calls}
+use Rattle.calls_distinct.specs.kept.Zones.{KeepZoneOrder, AreCrossed}
 use Rattle.calls_distinct.proofs.Judging.{nowhere_shows, crossing_shows, order_is}
 use Rattle.calls_distinct.proofs.verdict.judge.Goals as goal
 
@@ -27,5 +27,4 @@ pub returns : goal.returns
 returns c = λ past h le distinct grouped.
     order_is past c.args.end h le distinct c.args.zs.now grouped c.in_default.ensures
     c.in_ok-order.order.items c.in_ok-order.ensures.moved c.in_ok-order.ensures.sorted
-    (subst (EachPair KeepZoneOrder) c.deref.ensures.value c.in-None.ensures) _
-    (c.in_ok-calls_of-in-None.ensures ∙ ap zone_calls c.deref-in-None.ensures.value)
+    (subst (EachPair KeepZoneOrder) c.deref.ensures.value c.in-None.ensures)
