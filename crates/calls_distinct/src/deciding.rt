@@ -116,6 +116,7 @@ pub fn decide(alloc: Global, events: &Part<'_, '_>, end: usize) -> Result<Outcom
         return Ok(Outcome::Repeated(value(z.call), group.put));
     }
     let verdict = judge(alloc, &zs, end)?;
+    // (the lists that come next take as much memory)
     drop(zs);
     drop(groups);
     match verdict {

@@ -42,9 +42,11 @@ returns-in-Ordered c = λ kind store.
     (distinct_at n events c.requires.store c.requires.distinct)
     (grouped_of past end _ _ c.deref-3.result.now (c.deref-2.ensures.value ∙ c.in_ok-calls.ensures
     ∙ ap (λ (zs : List Event). calls_of_history (reverse zs) end) c.first-beginning.ensures)
-    c.deref-3.ensures.value c.in_ok-zs.ensures)) in
-    (_, subst (λ (t : ℕ). IsOrderOf kind past t (zone_calls c.in-Ordered.field-0.items)) (sym is)
-    (verdict kind store))
+    c.deref-3.ensures.value c.in_ok-zs.ensures)) in (
+      _,
+      subst (λ (t : ℕ). IsOrderOf kind past t (zone_calls c.in-Ordered.field-0.items)) (sym is)
+          (verdict kind store),
+    )
 
 pub returns : goal.returns
 returns c =
