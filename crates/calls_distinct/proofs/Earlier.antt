@@ -12,6 +12,7 @@ use Rattle.calls_core.specs.declared.history.Action.{Action}
 use Rattle.calls_core.specs.declared.history.Action.TheVariants.{Invoke, Respond}
 use Rattle.calls_core.specs.declared.history.Event.{Event}
 use Rattle.calls_core.specs.declared.history.PendingCall.{PendingCall}
+use Rattle.calls_core.specs.declared.history.Reply.{Reply}
 use Rattle.calls_core.specs.declared.history.Call.{Call}
 use Rattle.calls_core.specs.Histories.{clock, pending_of, without, invoked_by, pending_after}
 use Rattle.calls_core.specs.Histories.{pending_calls, completion, ended_call, completed_calls}
@@ -26,7 +27,8 @@ use Rattle.calls_distinct.specs.declared.cell.Fault.{Fault}
 use Rattle.calls_distinct.specs.declared.cell.Fault.TheVariants.{Nowhere, Stale, Alternate}
 use Rattle.calls_distinct.specs.kept.Verdicts.{IsFaultOf}
 use Rattle.calls_distinct.specs.Cells.{IsStore, IsStoreHistory, put_call, put_pending, times, gets}
-use Rattle.calls_distinct.specs.Cells.{IsDistinctHistory, Shows}
+use Rattle.calls_distinct.specs.Cells.{IsDistinctHistory, IsDistinct, is_got, Shows}
+use Rattle.calls_distinct.specs.Outcomes.{IsRepeated, is_put_at, put_pending_at}
 use Rattle.calls_distinct.proofs.Accesses.{same_history}
 use Rattle.calls_distinct.proofs.Steps.{past_more}
 
@@ -48,33 +50,53 @@ count_without p w (y ∷ os) o e =
       )
     ] e
 
-times_more : (kind : Kind) (v : ℕ) (x : Event) (action : Action) (o : Option PendingCall)
+-- an event makes no count of calls smaller
+counted_more : (p : Call → Bool) (q : PendingCall → Bool)
+    → ((n : ℕ) (r : Reply) (o : PendingCall) → p (completion n r o) ≡ q o)
+    → (kind : Kind) (x : Event) (action : Action) (o : Option PendingCall)
     (os : List PendingCall) (cs : List Call) → pending_of x.worker os ≡ o → IsNextOf kind action o
-    → times cs os v ≤ times (ended_call x action o ++ cs) (pending_after x action os) v
-times_more kind v x (Invoke k op) o os cs e h = omega (
+    → count_by p cs + count_by q os
+    ≤ count_by p (ended_call x action o ++ cs) + count_by q (pending_after x action os)
+counted_more p q same kind x (Invoke k op) o os cs e h = omega (
   arith,
-  count_append (put_pending v) os
+  count_append q os
       (invoked_by x k op ∷ []),
 )
-times_more kind v x (Respond r) None os cs e h = absurd h
-times_more kind v x (Respond r) (Some o) os cs e h = omega (
+counted_more p q same kind x (Respond r) None os cs e h = absurd h
+counted_more p q same kind x (Respond r) (Some o) os cs e h = omega (
   arith,
-  count_without (put_pending v) x.worker os o e,
-  count_cons (put_call v)
-      (completion x.at r o) cs,
+  count_without q x.worker os o e,
+  count_cons p (completion x.at r o) cs,
+  ap one (same x.at r o),
 )
+
+times_more : (kind : Kind) (v : ℕ) (x : Event) (past : List Event) → IsHistoryOf kind (x ∷ past)
+    → times (completed_calls past) (pending_calls past) v
+    ≤ times (completed_calls (x ∷ past)) (pending_calls (x ∷ past)) v
+times_more kind v x past h = counted_more (put_call v) (put_pending v) (λ n r o. refl) kind x
+    x.action (pending_of x.worker (pending_calls past)) (pending_calls past) (completed_calls past)
+    refl h.1
+
+got_more : (v : ℕ) (x : Event) (past : List Event) → is_got (completed_calls past) v ≡ true
+    → is_got (completed_calls (x ∷ past)) v ≡ true
+got_more v x past got =
+    let ended = ended_call x x.action (pending_of x.worker (pending_calls past)) in
+    let some = leb-true 1 (count_by (gets v) (completed_calls past)) got in
+    le-leb 1 (count_by (gets v) (ended ++ completed_calls past))
+    (omega (arith, count_append (gets v) ended (completed_calls past)))
+
+distinct_less : (kind : Kind) (v : ℕ) (x : Event) (past : List Event) → IsHistoryOf kind (x ∷ past)
+    → IsDistinct (completed_calls (x ∷ past)) (pending_calls (x ∷ past)) v
+    → IsDistinct (completed_calls past) (pending_calls past) v
+distinct_less kind v x past h d =
+    let le = times_more kind v x past h in
+    let once = d.once in
+    record { once = omega arith; zero_never = λ e. (let none = d.zero_never e in omega arith) }
 
 distinct_before : (kind : Kind) (x : Event) (past : List Event) → IsHistoryOf kind (x ∷ past)
     → IsDistinctHistory (x ∷ past) → IsDistinctHistory past
-distinct_before kind x past h d v got =
-    let ended = ended_call x x.action (pending_of x.worker (pending_calls past)) in
-    let some = leb-true 1 (count_by (gets v) (completed_calls past)) got in
-    let more = d v (le-leb 1 (count_by (gets v) (ended ++ completed_calls past))
-    (omega (arith, count_append (gets v) ended (completed_calls past)))) in
-    let le = times_more kind v x x.action (pending_of x.worker (pending_calls past))
-    (pending_calls past) (completed_calls past) refl h.1 in
-    let once = more.once in
-    record { once = omega arith; zero_never = λ e. (let none = more.zero_never e in omega arith) }
+distinct_before kind x past h d v got = distinct_less kind v x past h
+    (d v (got_more v x past got))
 
 distinct_earlier : (kind : Kind) (late past : List Event) → IsHistoryOf kind (late ++ past)
     → IsDistinctHistory (late ++ past) → IsDistinctHistory past
@@ -91,6 +113,36 @@ distinct_at i events h d = distinct_earlier h.0 (reverse (drop i events)) (past_
 pub store_at : (i : ℕ) (events : List Event) → IsStoreHistory (reverse events)
     → IsStoreHistory (past_at i events)
 store_at i events h = (h.0, h.1, history_at h.0 i events h.2)
+
+-- A REPEATED VALUE
+
+repeated_later : (kind : Kind) (late past : List Event) (v n : ℕ) → IsHistoryOf kind (late ++ past)
+    → IsRepeated (completed_calls past) (pending_calls past) v n
+    → IsRepeated (completed_calls (late ++ past)) (pending_calls (late ++ past)) v n
+repeated_later kind [] past v n h r = r
+repeated_later kind (x ∷ late) past v n h r =
+    let all = late ++ past in
+    let s = repeated_later kind late past v n h.2 r in
+    let there = s.there in
+    record {
+      got = got_more v x all s.got;
+      twice = λ d. s.twice (distinct_less kind v x all h d);
+      there = omega (
+        arith,
+        counted_more (is_put_at v n) (put_pending_at v n) (λ k y o. refl) kind x x.action
+            (pending_of x.worker (pending_calls all)) (pending_calls all) (completed_calls all)
+            refl h.1,
+      );
+    }
+
+-- a value that is repeated in the first events is so in all
+pub repeated_at : (i : ℕ) (events : List Event) (v n : ℕ) → IsStoreHistory (reverse events)
+    → IsRepeated (completed_calls (past_at i events)) (pending_calls (past_at i events)) v n
+    → IsRepeated (completed_calls (reverse events)) (pending_calls (reverse events)) v n
+repeated_at i events v n h r = subst (λ (past : List Event). IsRepeated (completed_calls past)
+    (pending_calls past) v n) (sym (past_split i events))
+    (repeated_later h.0 (reverse (drop i events)) (past_at i events) v n
+    (subst (IsHistoryOf h.0) (past_split i events) h.2) r)
 
 -- THE CLOCK
 

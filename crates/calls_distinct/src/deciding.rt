@@ -1,18 +1,17 @@
 //! Decides whether the calls of a cell are linearizable.
-ghost use Rattle.std.specs.Prelude.{◌≡◌, ◌<◌, ◌≤◌, ◌+◌, length, reverse, IfOk};
+ghost use Rattle.std.specs.Prelude.{◌≡◌, ◌<◌, ◌≤◌, ◌+◌, length, reverse, IfOk, IfSome};
 ghost use Rattle.calls_core.specs.declared.history.Kind.{Kind};
 ghost use Rattle.calls_core.specs.Histories.{clock};
 ghost use Rattle.calls_core.specs.Beginnings.{past_at};
 ghost use Rattle.calls_core.specs.Outcomes.{IsFirstFault};
 ghost use Rattle.calls_distinct.specs.Cells.{IsStore, IsStoreHistory, IsDistinctHistory, Shows};
 ghost use Rattle.calls_distinct.specs.Outcomes.{IsOutcome};
-ghost use Rattle.calls_distinct.specs.kept.Verdicts.{IsFaultOf};
+ghost use Rattle.calls_distinct.specs.kept.Verdicts.{IsFaultOf, IsRepeatedIn};
 
 use crate::groups::{group_calls, groups_of};
 use crate::history::calls_in;
-use crate::reading::value;
 use crate::searching::{events_up_to, next_between};
-use crate::testing::first_repeated;
+use crate::testing::repeated_value;
 use crate::verdict::{Verdict, calls_of, judge};
 use crate::{Fault, Outcome};
 use calls_core::{Call, Op, Part};
@@ -99,6 +98,20 @@ fn first_fault(
     Ok((low, fault))
 }
 
+/// Finds a value that the events show to be repeated, and the position of a put of it.
+fn repeated_in(
+    alloc: Global,
+    events: &Part<'_, '_>,
+    end: usize,
+) -> Result<Option<(usize, usize)>, AllocError>
+    ensures { IfOk result (λ found. IfSome found (IsRepeatedIn (reverse events.now))) }
+{
+    let calls = calls_in(alloc, events, end)?;
+    let groups = groups_of(alloc, &calls)?;
+    let zs = group_calls(alloc, &calls, &groups)?;
+    Ok(repeated_value(&zs))
+}
+
 /// Decides whether the calls of one cell, or of one database, have a linearization.
 ///
 /// It returns `Repeated` if a value was got that was put twice, or 0 was put and got. The events
@@ -108,12 +121,16 @@ pub fn decide(alloc: Global, events: &Part<'_, '_>, end: usize) -> Result<Outcom
     requires end { clock (reverse events.now) ≤ end }
     ensures { IfOk result (IsOutcome events.now end) }
 {
+    // (where values repeat, mostly a beginning shows it)
+    let beginning = events.first(events.len() / 64);
+    if let Some((value, position)) = repeated_in(alloc, &beginning, end)? {
+        return Ok(Outcome::Repeated(value, position));
+    }
     let calls = calls_in(alloc, events, end)?;
     let groups = groups_of(alloc, &calls)?;
     let zs = group_calls(alloc, &calls, &groups)?;
-    if let Some(z) = first_repeated(&zs) {
-        let group = z.group;
-        return Ok(Outcome::Repeated(value(z.call), group.put));
+    if let Some((value, position)) = repeated_value(&zs) {
+        return Ok(Outcome::Repeated(value, position));
     }
     let verdict = judge(alloc, &zs, end)?;
     // (the lists that come next take as much memory)

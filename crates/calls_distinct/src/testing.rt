@@ -1,8 +1,12 @@
 //! Whether each get returned a value that was put once, and in time.
-ghost use Rattle.std.specs.Prelude.{◌≡◌, true, false, Option, None, Some, option_copied};
+ghost use Rattle.std.specs.Prelude.{◌≡◌, ℕ, List, true, false, Option, None, Some, option_copied};
+ghost use Rattle.std.specs.Prelude.{MatchOption};
 ghost use Rattle.std.specs.List.{Contains};
+ghost use Rattle.calls_core.specs.declared.history.Event.{Event};
 ghost use Rattle.calls_core.specs.Lists.{Each};
+ghost use Rattle.calls_distinct.specs.Cells.{IsDistinctHistory};
 ghost use Rattle.calls_distinct.specs.kept.Groups.{repeats, lacks_put, IsFirst};
+ghost use Rattle.calls_distinct.specs.kept.Verdicts.{AreGroupedOf, IsRepeatedIn};
 
 use crate::reading::{is_put, value};
 use crate::zone::GroupedCall;
@@ -24,9 +28,7 @@ fn lacks_put(z: &GroupedCall) -> bool
 }
 
 /// Finds a get of a value that was put twice, or of 0, which was put.
-pub(crate) fn first_repeated<'z, 'g, 'a>(
-    zs: &'z [GroupedCall<'g, 'a>],
-) -> Option<&'z GroupedCall<'g, 'a>>
+fn first_repeated<'z, 'g, 'a>(zs: &'z [GroupedCall<'g, 'a>]) -> Option<&'z GroupedCall<'g, 'a>>
     ensures { IsFirst repeats zs.now (option_copied result) }
 {
     for z in zs {
@@ -35,6 +37,20 @@ pub(crate) fn first_repeated<'z, 'g, 'a>(
         }
     }
     None
+}
+
+/// Finds a value that was put twice, or 0, which was put, if it was got; and the position of a put.
+pub(crate) fn repeated_value(zs: &[GroupedCall]) -> Option<(usize, usize)>
+    ensures { (past : List Event) (t : ℕ) → AreGroupedOf past t zs.now
+        → MatchOption result (IsDistinctHistory past) (IsRepeatedIn past) }
+{
+    match first_repeated(zs) {
+        Some(z) => {
+            let group = z.group;
+            Some((value(z.call), group.put))
+        }
+        None => None,
+    }
 }
 
 /// Finds a get of a value that was not put before its response.

@@ -11,6 +11,7 @@ use Rattle.calls_distinct.specs.declared.zone.GroupedCall.{GroupedCall}
 use Rattle.calls_distinct.specs.declared.verdict.Verdict.{Verdict}
 use Rattle.calls_distinct.specs.declared.verdict.Verdict.TheVariants.{Ordered, Faulty}
 use Rattle.calls_distinct.specs.Cells.{IsStore, Shows}
+use Rattle.calls_distinct.specs.Outcomes.{IsRepeated}
 use Rattle.calls_distinct.specs.kept.Zones.{begun_calls, zone_calls}
 use Rattle.calls_distinct.specs.kept.Groups.{AreGrouped}
 
@@ -19,6 +20,10 @@ calls_of_history past t = begun_calls (completed_calls past) (pending_calls past
 
 abbrev pub AreGroupedOf : List Event → ℕ → List GroupedCall → Type 0
 AreGroupedOf past t zs = AreGrouped (calls_of_history past t) (calls_of_history past t) zs
+
+-- a value that the events show to be repeated, and the position of a put of it
+abbrev pub IsRepeatedIn : List Event → ℕ × ℕ → Type 0
+IsRepeatedIn past p = IsRepeated (completed_calls past) (pending_calls past) p.0 p.1
 
 abbrev pub IsVerdict : List Event → ℕ → Verdict → Type 0
 IsVerdict past t (Ordered zs) =
