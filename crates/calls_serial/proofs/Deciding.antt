@@ -1,12 +1,9 @@
 -- The pass over the events of a history.
 use Rattle.std.proofs.Common.{◌≡◌, ℕ, ◌+◌, ◌<◌, ◌≤◌, List, [], ◌∷◌, ◌++◌, length, map}
 use Rattle.std.proofs.Common.{reverse, Option, Some, None, refl, ap, sym, ◌∙◌, arith, subst, take}
-use Rattle.std.proofs.Common.{drop, get_or}
-use Rattle.std.proofs.Common.{Result, Ok, Err}
-use Rattle.std.specs.Prelude.{MatchOption, IfOk}
-use Rattle.std.specs.List.{remove}
-use Rattle.std.proofs.lemmas.Option.{get_or_from_slice_get}
-use Rattle.std.proofs.lemmas.List.{take_more, take_all, reverse-append, append-nil, map-append}
+use Rattle.std.proofs.Common.{get_or}
+use Rattle.std.specs.Prelude.{MatchOption}
+use Rattle.std.proofs.lemmas.List.{take_more, append-nil, map-append}
 use Rattle.std.proofs.lemmas.List.Sorted.{IsPermutation-refl}
 use Rattle.calls_core.specs.declared.history.Kind.TheVariants.{Cell}
 use Rattle.calls_core.specs.declared.history.Op.{Op}
@@ -16,18 +13,15 @@ use Rattle.calls_core.specs.declared.history.Action.TheVariants.{Invoke, Respond
 use Rattle.calls_core.specs.declared.history.Event.{Event}
 use Rattle.calls_core.specs.declared.history.PendingCall.{PendingCall}
 use Rattle.calls_core.specs.declared.history.Call.{Call}
-use Rattle.calls_core.specs.Lists.{Each}
 use Rattle.calls_core.specs.Histories.{clock, pending_of, without, invoked_by, pending_calls}
 use Rattle.calls_core.specs.Histories.{completion, ended_call, completed_calls, Takes}
 use Rattle.calls_core.specs.Histories.{IsNextOf, IsHistoryOf}
-use Rattle.calls_core.specs.Calls.{IsCallOf}
 use Rattle.calls_core.specs.Beginnings.{past_at}
 use Rattle.calls_core.specs.Completions.{settle_call}
 use Rattle.calls_core.specs.Outcomes.{IsOrderOf, HasOrderOf}
-use Rattle.calls_core.proofs.Lists.{each_weaker}
 use Rattle.calls_core.proofs.Positions.{each_call_by, are_calls_of, early_calls}
 use Rattle.calls_core.proofs.Settling.{order_at}
-use Rattle.calls_core.proofs.Beginnings.{past_split, history_at, orders_before, past_next, past_all}
+use Rattle.calls_core.proofs.Beginnings.{history_at, orders_before, past_next, past_all}
 use Rattle.calls_core.proofs.Beginnings.{clock_at}
 use Rattle.calls_serial.specs.declared.outcome.Fault.{Fault}
 use Rattle.calls_serial.specs.declared.stage.Stage.{Stage}

@@ -23,7 +23,7 @@ use Rattle.calls_serial.specs.declared.stage.Link.{Link}
 use Rattle.calls_serial.specs.Faults.{Leaves}
 use Rattle.calls_serial.specs.kept.Stages.{StageView, is_put, IsOver, Begins, gets_of_link, Current, current}
 use Rattle.calls_serial.specs.kept.Stages.{open_stage}
-use Rattle.calls_serial.specs.kept.Stages.{current_puts, pending_puts, AreStages, links_with, with_get}
+use Rattle.calls_serial.specs.kept.Stages.{as_get, current_puts, pending_puts, AreStages, links_with, with_get}
 use Rattle.calls_serial.specs.kept.Stages.{with_late, with_response, IsPassed, IsReason, IsAt}
 use Rattle.calls_serial.specs.kept.Stages.{IsShutOut, NextLater}
 use Rattle.calls_serial.specs.kept.Passing.{first_of, completed_of, IsResponse, IsFitting, Holding}
@@ -97,7 +97,7 @@ module _ (end t : ℕ) (done : List Call) (pending : List PendingCall) (w at : �
       ∙ take_front k.prefix (current k.now))) k.represents.begins
 
   module _ (x m : ℕ) (r : Reply) (number : r ≡ Number x) (many : m ≡ length k.prefix) where
-    own : Call
+    abbrev own : Call
     own = completion at r o
 
     split_at : (i : ℕ) (h : StageView) → i < m → slice_get hs i ≡ Some h
@@ -105,11 +105,16 @@ module _ (end t : ℕ) (done : List Call) (pending : List PendingCall) (w at : �
     split_at i h lt e = split_front k.prefix (current k.now) i h (omega arith)
         (ap (λ zs. slice_get zs i) (sym k.all) ∙ e)
 
+    -- it is a get of its stage's value
+    as_own : (v : ℕ) → v ≡ x → as_get v own ≡ own
+    as_own v e = (let op = get in let reply = number in cc)
+
     -- A COMPLETED PUT'S VALUE
 
     pub placed_in : (i : ℕ) (more : List StageView) → IsAt hs m o.first x i
         → ((prefix : List StageView) (h : StageView) (back : List StageView) → length prefix ≡ i
-        → hs ≡ prefix ++ h ∷ back → more ≡ prefix ++ with_get (completion at r o) h ∷ back)
+        → hs ≡ prefix ++ h ∷ back
+        → more ≡ prefix ++ with_get (as_get h.value (completion at r o)) h ∷ back)
         → Holding end (at + 1) (completion at r o ∷ done) (without w pending) more ls
     placed_in i more a adds =
         (let s = split_at i a.stage a.within a.here in
@@ -120,6 +125,8 @@ module _ (end t : ℕ) (done : List Call) (pending : List PendingCall) (w at : �
           prefix = s.before ++ with_get (completion at r o) a.stage ∷ s.behind;
           now = k.now;
           all = adds s.before a.stage (s.behind ++ current k.now) s.long whole
+              ∙ ap (λ c. s.before ++ with_get c a.stage ∷ (s.behind ++ current k.now))
+              (as_own a.stage.value a.value)
               ∙ sym (append_assoc s.before (with_get (completion at r o) a.stage ∷ s.behind)
               (current k.now));
           represents =
@@ -156,7 +163,7 @@ module _ (end t : ℕ) (done : List Call) (pending : List PendingCall) (w at : �
         → ((h : StageView) → slice_get hs m ≡ Some h → h.value ≡ x)
         → (more : List StageView) (links : List Link) (n : ℕ) → n ≡ length ls
         → ((prefix : List StageView) (h : StageView) → hs ≡ prefix ++ h ∷ []
-        → (more ≡ prefix ++ with_late (completion at r o) n h ∷ [])
+        → (more ≡ prefix ++ with_late (as_get h.value (completion at r o)) n h ∷ [])
         × (links ≡ links_with h.link (record { get = completion at r o; because = because }) ls))
         → Holding end (at + 1) (completion at r o ∷ done) (without w pending) more links
     late_in because s lt value more links n long adds = by k.now refl
@@ -188,7 +195,8 @@ module _ (end t : ℕ) (done : List Call) (pending : List PendingCall) (w at : �
                 call = c.call;
                 stage = with_late (completion at r o) (length ls) c.stage;
               });
-              all = a.0 ∙ ap (λ i. k.prefix ++ with_late (completion at r o) i c.stage ∷ []) long;
+              all = a.0 ∙ ap (λ z. k.prefix ++ with_late z n c.stage ∷ [])
+                  (as_own c.stage.value worth) ∙ ap (λ i. k.prefix ++ with_late (completion at r o) i c.stage ∷ []) long;
               represents = subst
                   (λ zs. AreStages end (at + 1) (completion at r o ∷ done) (without w pending) k.prefix
                   (Some (record {
@@ -231,12 +239,12 @@ module _ (end t : ℕ) (done : List Call) (pending : List PendingCall) (w at : �
     pub placed_for : (z : Call) → z ≡ completion at r o → (i : ℕ) (more : List StageView)
         → IsAt hs m z.first x i
         → ((prefix : List StageView) (h : StageView) (back : List StageView) → length prefix ≡ i
-        → hs ≡ prefix ++ h ∷ back → more ≡ prefix ++ with_get z h ∷ back)
+        → hs ≡ prefix ++ h ∷ back → more ≡ prefix ++ with_get (as_get h.value z) h ∷ back)
         → Holding end (at + 1) (z ∷ done) (without w pending) more ls
     placed_for z e i more =
         subst (λ (y : Call). IsAt hs m y.first x i
         → ((prefix : List StageView) (h : StageView) (back : List StageView) → length prefix ≡ i
-        → hs ≡ prefix ++ h ∷ back → more ≡ prefix ++ with_get y h ∷ back)
+        → hs ≡ prefix ++ h ∷ back → more ≡ prefix ++ with_get (as_get h.value y) h ∷ back)
         → Holding end (at + 1) (y ∷ done) (without w pending) more ls) (sym e) (placed_in i more)
 
     pub late_for : (z : Call) → z ≡ completion at r o → (because : Option ℕ)
@@ -244,7 +252,7 @@ module _ (end t : ℕ) (done : List Call) (pending : List PendingCall) (w at : �
         → ((h : StageView) → slice_get hs m ≡ Some h → h.value ≡ x)
         → (more : List StageView) (links : List Link) (n : ℕ) → n ≡ length ls
         → ((prefix : List StageView) (h : StageView) → hs ≡ prefix ++ h ∷ []
-        → (more ≡ prefix ++ with_late z n h ∷ [])
+        → (more ≡ prefix ++ with_late (as_get h.value z) n h ∷ [])
         × (links ≡ links_with h.link (record { get = z; because = because }) ls))
         → Holding end (at + 1) (z ∷ done) (without w pending) more links
     late_for z e because =
@@ -252,7 +260,7 @@ module _ (end t : ℕ) (done : List Call) (pending : List PendingCall) (w at : �
         → ((h : StageView) → slice_get hs m ≡ Some h → h.value ≡ x)
         → (more : List StageView) (links : List Link) (n : ℕ) → n ≡ length ls
         → ((prefix : List StageView) (h : StageView) → hs ≡ prefix ++ h ∷ []
-        → (more ≡ prefix ++ with_late y n h ∷ [])
+        → (more ≡ prefix ++ with_late (as_get h.value y) n h ∷ [])
         × (links ≡ links_with h.link (record { get = y; because = because }) ls))
         → Holding end (at + 1) (y ∷ done) (without w pending) more links) (sym e)
         (late_in because)

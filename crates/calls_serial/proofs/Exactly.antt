@@ -25,7 +25,8 @@ use Rattle.calls_core.proofs.Positions.{each_call_by, are_calls_of, early_calls}
 use Rattle.calls_serial.specs.declared.stage.Link.{Link}
 use Rattle.calls_serial.specs.Faults.{Leaves, HasNoneLeft}
 use Rattle.calls_serial.specs.kept.Stages.{StageView, is_put, IsOver, Begins, gets_of_link, current}
-use Rattle.calls_serial.specs.kept.Stages.{all_calls, first_stage, open_stage, with_get, with_late}
+use Rattle.calls_serial.specs.kept.Stages.{all_calls, first_stage, open_stage, as_get, with_get}
+use Rattle.calls_serial.specs.kept.Stages.{with_late}
 use Rattle.calls_serial.specs.kept.Stages.{with_response, links_with, pending_puts}
 use Rattle.calls_serial.specs.kept.Stages.{IsPassed, NextLater, NextEarlier, IsAt}
 use Rattle.calls_serial.specs.kept.Stages.{IsShutOut}
@@ -287,29 +288,35 @@ module _ (end t : ℕ) (done : List Call) (pending : List PendingCall)
       many : length k.prefix ≡ length k.prefix
       many = refl
 
+      abbrev with_own : StageView → StageView
+      with_own h = with_get (as_get h.value (completion at r o)) h
+
+      abbrev with_own_late : StageView → StageView
+      with_own_late h = with_late (as_get h.value (completion at r o)) (length ls) h
+
       placed : (i : ℕ) → IsAt hs (length k.prefix) o.first x i → After
       placed i a = inl (
-        applied hs i (with_get (completion at r o)),
+        applied hs i with_own,
         ls,
         placed_in end t done pending w at o hs ls g get k x (length k.prefix) r number refl i
-            (applied hs i (with_get (completion at r o))) a
-            (λ prefix h back long e. ap (λ zs. applied zs i (with_get (completion at r o))) e
-            ∙ applied_at prefix h back i (with_get (completion at r o)) long),
+            (applied hs i with_own) a
+            (λ prefix h back long e. ap (λ zs. applied zs i with_own) e
+            ∙ applied_at prefix h back i with_own long),
       )
 
       late : (because : Option ℕ) → IsShutOut hs (length k.prefix) o.first x because
           → length k.prefix < length hs
           → ((h : StageView) → slice_get hs (length k.prefix) ≡ Some h → h.value ≡ x) → After
       late because s lt value = inl (
-        applied hs (length hs - 1) (with_late (completion at r o) (length ls)),
+        applied hs (length hs - 1) with_own_late,
         links_with (last_of first_stage hs).link
             (record { get = completion at r o; because = because }) ls,
         late_in end t done pending w at o hs ls g get k x (length k.prefix) r number refl because s
-            lt value (applied hs (length hs - 1) (with_late (completion at r o) (length ls)))
+            lt value (applied hs (length hs - 1) with_own_late)
             (links_with (last_of first_stage hs).link
             (record { get = completion at r o; because = because }) ls) (length ls) refl
             (λ prefix h e. (
-              applied_last hs prefix h (with_late (completion at r o) (length ls)) e,
+              applied_last hs prefix h with_own_late e,
               ap (λ (z : StageView). links_with z.link
                   (record { get = completion at r o; because = because }) ls)
                   (ap (last_of first_stage) e ∙ last_is first_stage prefix h),

@@ -3,28 +3,28 @@ use Rattle.std.proofs.Common.{◌≡◌, ℕ, zero, suc, ◌+◌, ◌-◌, ◌<�
 use Rattle.std.proofs.Common.{false, ◌==◌, cond, List, [], ◌∷◌, ◌++◌, length, reverse, Option}
 use Rattle.std.proofs.Common.{Some, None, refl, ap, sym, ◌∙◌, arith, subst, get_or, set, take, drop}
 use Rattle.std.proofs.Common.{drop-cons, slice_get, length-append}
-use Rattle.std.proofs.lemmas.List.{get_or_default, length-map}
+use Rattle.std.proofs.lemmas.List.{get_or_default, length-map, map-append}
 use Rattle.std.specs.Option.{option_eq}
 use Rattle.calls_core.specs.declared.history.Op.TheVariants.{Get}
 use Rattle.calls_core.specs.declared.history.Reply.TheVariants.{Done}
 use Rattle.std.proofs.lemmas.Bool.{eq-eqb, ne_eqb}
 use Rattle.std.proofs.lemmas.List.{take_more, reverse-append, length-reverse, length-take-le}
-use Rattle.std.proofs.lemmas.Option.{same_Some, get_or_from_slice_get}
+use Rattle.std.proofs.lemmas.Option.{same_Some}
 use Rattle.calls_core.specs.declared.history.PendingCall.{PendingCall}
 use Rattle.calls_core.specs.declared.history.Call.{Call}
 use Rattle.calls_core.specs.Lists.{Each}
-use Rattle.calls_core.specs.Histories.{pending_of, without}
 use Rattle.calls_serial.specs.declared.stage.Stage.{Stage}
+use Rattle.calls_serial.specs.declared.stage.StageGet.{StageGet}
 use Rattle.calls_serial.specs.declared.stage.Link.{Link}
 use Rattle.calls_serial.specs.kept.Stages.{StageView, stage_view, helds, is_put, pending_puts, Begins, IsOver}
 use Rattle.calls_serial.specs.declared.search.PutChoice.{PutChoice}
 use Rattle.calls_serial.specs.declared.search.PutChoice.TheVariants.{At, Shut}
 use Rattle.calls_serial.specs.kept.Stages.{gets_of_link, IsPassed, NextLater, NextEarlier, IsReason}
 use Rattle.calls_serial.specs.kept.Stages.{IsAt}
-use Rattle.calls_serial.specs.kept.Stages.{IsFound, IsEarly, links_with, with_get, with_late}
+use Rattle.calls_serial.specs.kept.Stages.{IsFound, IsEarly, as_get, get_call, stage_gets, links_with, with_get, with_late}
 use Rattle.calls_serial.specs.kept.Stages.{with_response}
 use Rattle.calls_serial.specs.kept.Passing.{first_of, IsLate}
-use Rattle.std.specs.Prelude.{IsTrue, ◌↔◌}
+use Rattle.std.specs.Prelude.{IsTrue, ◌↔◌, is_some}
 use Rattle.calls_serial.proofs.Growing.{puts_yes, puts_no}
 
 -- THE FIRST PUT
@@ -263,14 +263,14 @@ pub last_late : (xs : List Stage) (links : List Link) (prefix : List StageView) 
     (l : Link) (s d : Stage) (n k : ℕ) (first : Bool) → helds xs ≡ prefix ++ h ∷ []
     → IsLate (stage_view (get_or xs n d)) (stage_view s) l.get k first → n ≡ length xs - 1
     → k ≡ length links
-    → (helds (set xs n s) ≡ prefix ++ with_late l.get (length links) h ∷ [])
+    → (helds (set xs n s) ≡ prefix ++ with_late (as_get h.value l.get) (length links) h ∷ [])
     × (IsTrue first ↔ (h.link ≡ None))
 last_late xs links prefix h l s d n k first e late is many =
     (let at : length prefix ≡ n = last_is xs prefix h e ∙ sym is in
     let own : stage_view (get_or xs n d) ≡ h = held_get xs n d prefix h [] at e in (
-      held_set xs n s (with_late l.get (length links) h) prefix h [] at e
-          (late.stage ∙ ap (λ (z : StageView). with_late l.get k z) own
-          ∙ ap (λ i. with_late l.get i h) many),
+      held_set xs n s (with_late (as_get h.value l.get) (length links) h) prefix h [] at e
+          (late.stage ∙ ap (λ (z : StageView). with_late (as_get z.value l.get) k z) own
+          ∙ ap (λ i. with_late (as_get h.value l.get) i h) many),
       subst (λ (z : StageView). IsTrue first ↔ (z.link ≡ None)) own late.said,
     ))
 
@@ -295,10 +295,45 @@ last_full xs prefix h c s d n e full is =
     held_set xs n s (with_response c h) prefix h [] at e
     (full ∙ ap (with_response c) (held_get xs n d prefix h [] at e)))
 
+-- one more get of a stage
+pub more_gets : (v : ℕ) (gs : List StageGet) (g : StageGet) (c : Call)
+    → ((w : ℕ) → get_call w g ≡ as_get w c)
+    → stage_gets v (gs ++ g ∷ []) ≡ stage_gets v gs ++ as_get v c ∷ []
+more_gets v gs g c is = map-append (get_call v) gs (g ∷ [])
+    ∙ ap (λ x. stage_gets v gs ++ x ∷ []) (is v)
+
+-- a late get, if the stage has a link or none
+pub late_kept : (s : StageView) (link : Option ℕ) (c : Call) (n : ℕ) → is_some link ≡ true
+    → IsLate (record { put = s.put; value = s.value; moment = s.moment; link = link; gets = s.gets })
+    (record {
+      put = s.put;
+      value = s.value;
+      moment = s.moment;
+      link = link;
+      gets = s.gets ++ as_get s.value c ∷ [];
+    }) c n false
+late_kept s None c n e = absurd (let no : false ≡ true = e in cc)
+late_kept s (Some i) c n e = record {
+  stage = refl;
+  said = (λ t. absurd (let no : false ≡ true = t in cc), λ k. absurd (let no : Some i ≡ None = k in cc));
+}
+
+pub late_first : (s : StageView) (link : Option ℕ) (c : Call) (n : ℕ) → is_some link ≡ false
+    → IsLate (record { put = s.put; value = s.value; moment = s.moment; link = link; gets = s.gets })
+    (record {
+      put = s.put;
+      value = s.value;
+      moment = c.last;
+      link = Some n;
+      gets = s.gets ++ as_get s.value c ∷ [];
+    }) c n true
+late_first s None c n e = record { stage = refl; said = (λ t. refl, λ k. refl) }
+late_first s (Some i) c n e = absurd (let no : true ≡ false = e in cc)
+
 pub pushed : (xs : List Stage) (prefix : List StageView) (h : StageView) (back : List StageView) (i : ℕ)
     (c : Call) (s d : Stage) → length prefix ≡ i → helds xs ≡ prefix ++ h ∷ back
-    → stage_view s ≡ with_get c (stage_view (get_or xs i d))
-    → helds (set xs i s) ≡ prefix ++ with_get c h ∷ back
+    → stage_view s ≡ with_get (as_get (get_or xs i d).value c) (stage_view (get_or xs i d))
+    → helds (set xs i s) ≡ prefix ++ with_get (as_get h.value c) h ∷ back
 pushed xs prefix h back i c s d at e own =
-    held_set xs i s (with_get c h) prefix h back at e
-    (own ∙ ap (with_get c) (held_get xs i d prefix h back at e))
+    held_set xs i s (with_get (as_get h.value c) h) prefix h back at e
+    (own ∙ ap (λ (z : StageView). with_get (as_get z.value c) z) (held_get xs i d prefix h back at e))

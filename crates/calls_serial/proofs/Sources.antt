@@ -24,7 +24,6 @@ use Rattle.calls_core.proofs.Lists.{each_weaker, each_append, all_from_each}
 use Rattle.calls_core.proofs.Filters.{each_from_all}
 use Rattle.calls_serial.specs.Faults.{IsShut, IsGone, HasOnly, Binds}
 use Rattle.calls_serial.specs.Faults.{Leaves}
-use Rattle.calls_serial.proofs.Shutting.{same_put as put_is}
 
 abbrev pub Access : Call → Type 0
 Access c = Takes (Some Cell) c.op

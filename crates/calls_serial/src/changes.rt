@@ -3,7 +3,7 @@ ghost use Rattle.std.specs.Prelude.{◌≡◌, ◌<◌, ◌++◌, [], ◌∷◌,
 ghost use Rattle.calls_serial.specs.kept.Stages.{stage_view, helds, open_stage, with_response};
 ghost use Rattle.calls_serial.specs.kept.Passing.{AddsGet, Responds, IsLate, AddsLate};
 
-use crate::stage::{Link, Stage};
+use crate::stage::{Link, Stage, StageGet};
 use calls_core::{Call, PendingCall, Reply};
 use std::alloc::{AllocError, Global};
 
@@ -33,7 +33,7 @@ pub fn add_get(stages: &mut Vec<Stage>, i: usize, get: Call) -> Result<(), Alloc
     requires { i < length stages.old.items }
     ensures { IfOk result (λ _. AddsGet stages.old.items stages.new.items i get) }
 {
-    stages[i].gets.push(get)?;
+    stages[i].gets.push(StageGet::new(get))?;
     Ok(())
 }
 
@@ -44,7 +44,7 @@ fn add_to_pending(stage: &mut Stage, get: Call, n: usize) -> Result<bool, AllocE
     ensures { IfOk result
         (λ first. IsLate (stage_view stage.old) (stage_view stage.new) get n first) }
 {
-    stage.gets.push(get)?;
+    stage.gets.push(StageGet::new(get))?;
     if stage.link.is_some() {
         return Ok(false);
     }

@@ -91,7 +91,7 @@ fn add_calls(calls: &mut PlacedCalls, stage: &Stage) -> Result<(), AllocError>
         calls.push(put)?;
     }
     for get in &stage.gets {
-        calls.push(*get)?;
+        calls.push(get.call(stage.value))?;
     }
     Ok(())
 }

@@ -23,7 +23,7 @@ use Rattle.calls_serial.specs.Faults.{Leaves, Shows}
 use Rattle.calls_serial.specs.Outcomes.{AreBothPending}
 use Rattle.calls_serial.specs.kept.Stages.{StageView, helds, Current, current}
 use Rattle.calls_serial.specs.kept.Stages.{AreStages}
-use Rattle.calls_serial.specs.kept.Stages.{links_with, with_get, with_late, with_response}
+use Rattle.calls_serial.specs.kept.Stages.{as_get, links_with, with_get, with_late, with_response}
 
 abbrev pub first_of : {X : Type 0} → List X → Option X
 first_of [] = None
@@ -39,7 +39,8 @@ completed_of (Some o) n = n - 1
 abbrev pub AddsGet : List Stage → List Stage → ℕ → Call → Type 0
 AddsGet old new i get =
     (prefix : List StageView) (h : StageView) (back : List StageView) → length prefix ≡ i
-    → helds old ≡ prefix ++ h ∷ back → helds new ≡ prefix ++ with_get get h ∷ back
+    → helds old ≡ prefix ++ h ∷ back
+    → helds new ≡ prefix ++ with_get (as_get h.value get) h ∷ back
 
 abbrev pub Responds : List Stage → List Stage → Call → Type 0
 Responds old new call =
@@ -48,13 +49,13 @@ Responds old new call =
 
 -- a get is added when there are n links; it is the first one if the stage had no link
 pub record IsLate (old new : StageView) (get : Call) (n : ℕ) (first : Bool) : Type 0 where
-  pub stage : new ≡ with_late get n old
+  pub stage : new ≡ with_late (as_get old.value get) n old
   pub said : IsTrue first ↔ (old.link ≡ None)
 
 abbrev pub AddsLate : List Stage → List Stage → List Link → List Link → Link → Type 0
 AddsLate old new links more link =
     (prefix : List StageView) (h : StageView) → helds old ≡ prefix ++ h ∷ []
-    → (helds new ≡ prefix ++ with_late link.get (length links) h ∷ [])
+    → (helds new ≡ prefix ++ with_late (as_get h.value link.get) (length links) h ∷ [])
     × (reverse more ≡ links_with h.link link (reverse links))
 
 -- THE PASS

@@ -14,6 +14,7 @@ use Rattle.calls_core.specs.declared.history.Call.{Call}
 use Rattle.calls_core.specs.Lists.{Each, EachPair}
 use Rattle.calls_core.specs.Histories.{completion}
 use Rattle.calls_serial.specs.declared.stage.Stage.{Stage}
+use Rattle.calls_serial.specs.declared.stage.StageGet.{StageGet}
 use Rattle.calls_serial.specs.declared.stage.Link.{Link}
 use Rattle.calls_serial.specs.declared.search.PutChoice.{PutChoice}
 use Rattle.calls_serial.specs.declared.search.PutChoice.TheVariants.{At, Shut}
@@ -27,9 +28,39 @@ pub record StageView : Type 0 where
   pub link : Option ℕ
   pub gets : List Call
 
+-- a call as a get of this value
+abbrev pub as_get : ℕ → Call → Call
+as_get v c = record {
+  worker = c.worker;
+  object = c.object;
+  op = Get;
+  reply = Number v;
+  first = c.first;
+  last = c.last;
+}
+
+-- a get in a stage of this value
+abbrev pub get_call : ℕ → StageGet → Call
+get_call v g = record {
+  worker = g.worker;
+  object = g.object;
+  op = Get;
+  reply = Number v;
+  first = g.first;
+  last = g.last;
+}
+
+abbrev pub stage_gets : ℕ → List StageGet → List Call
+stage_gets v gs = map (get_call v) gs
+
 abbrev pub stage_view : Stage → StageView
-stage_view s =
-    record { put = s.put; value = s.value; moment = s.moment; link = s.link; gets = s.gets.items }
+stage_view s = record {
+  put = s.put;
+  value = s.value;
+  moment = s.moment;
+  link = s.link;
+  gets = stage_gets s.value s.gets.items;
+}
 
 abbrev pub helds : List Stage → List StageView
 helds ss = map stage_view ss
