@@ -10,6 +10,7 @@ use Rattle.std.proofs.lemmas.List.Sorted.{IsPermutation-refl}
 use Rattle.calls_core.specs.declared.history.Kind.{Kind}
 use Rattle.calls_core.specs.declared.history.Action.{Action}
 use Rattle.calls_core.specs.declared.history.Action.TheVariants.{Invoke, Respond}
+use Rattle.calls_core.specs.declared.history.Reply.{Reply}
 use Rattle.calls_core.specs.declared.history.Event.{Event}
 use Rattle.calls_core.specs.declared.history.PendingCall.{PendingCall}
 use Rattle.calls_core.specs.declared.history.Call.{Call}
@@ -50,20 +51,37 @@ count_without p w (y ∷ os) o e =
       )
     ] e
 
-times_more : (kind : Kind) (v : ℕ) (x : Event) (action : Action) (o : Option PendingCall)
+-- the pending call that an event adds, counted by a test
+abbrev pub invoked : (PendingCall → Bool) → Event → Action → ℕ
+invoked q x (Invoke k op) = one (q (invoked_by x k op))
+invoked q x (Respond r) = 0
+
+-- counts of calls, whether or not they have completed, with one more event
+pub counted_next : (p : Call → Bool) (q : PendingCall → Bool)
+    → ((t : ℕ) (r : Reply) (o : PendingCall) → p (completion t r o) ≡ q o) → (kind : Kind)
+    → (x : Event) (action : Action) (o : Option PendingCall) (os : List PendingCall)
+    → (cs : List Call) → pending_of x.worker os ≡ o → IsNextOf kind action o
+    → count_by p (ended_call x action o ++ cs) + count_by q (pending_after x action os)
+    ≡ count_by p cs + count_by q os + invoked q x action
+counted_next p q same kind x (Invoke k op) o os cs e h = omega (
+  arith,
+  count_append q os (invoked_by x k op ∷ []),
+  count_cons q (invoked_by x k op) [],
+)
+counted_next p q same kind x (Respond r) None os cs e h = absurd h
+counted_next p q same kind x (Respond r) (Some o) os cs e h = omega (
+  arith,
+  count_without q x.worker os o e,
+  count_cons p (completion x.at r o) cs,
+  ap one (same x.at r o),
+)
+
+pub times_more : (kind : Kind) (v : ℕ) (x : Event) (action : Action) (o : Option PendingCall)
     (os : List PendingCall) (cs : List Call) → pending_of x.worker os ≡ o → IsNextOf kind action o
     → times cs os v ≤ times (ended_call x action o ++ cs) (pending_after x action os) v
-times_more kind v x (Invoke k op) o os cs e h = omega (
+times_more kind v x action o os cs e h = omega (
   arith,
-  count_append (put_pending v) os
-      (invoked_by x k op ∷ []),
-)
-times_more kind v x (Respond r) None os cs e h = absurd h
-times_more kind v x (Respond r) (Some o) os cs e h = omega (
-  arith,
-  count_without (put_pending v) x.worker os o e,
-  count_cons (put_call v)
-      (completion x.at r o) cs,
+  counted_next (put_call v) (put_pending v) (λ t r p. refl) kind x action o os cs e h,
 )
 
 distinct_before : (kind : Kind) (x : Event) (past : List Event) → IsHistoryOf kind (x ∷ past)

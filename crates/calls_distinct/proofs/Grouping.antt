@@ -1,12 +1,11 @@
 -- One more call in the groups.
-use Rattle.std.proofs.Common.{◌≡◌, ◌≢◌, ℕ, zero, ◌+◌, ◌<◌, ◌≤◌, inl, inr, Bool, true, ◌||◌}
+use Rattle.std.proofs.Common.{◌≡◌, ◌≢◌, ℕ, zero, ◌+◌, ◌≤◌, inl, inr, Bool, true, ◌||◌}
 use Rattle.std.proofs.Common.{false, cond, not, ◌&&◌, ◌==◌, nat_lt, nat_le, Option, Some, None}
-use Rattle.std.proofs.Common.{subst, List, [], ◌∷◌, ◌++◌, length, refl, ap, sym}
+use Rattle.std.proofs.Common.{subst, List, [], ◌∷◌, ◌++◌, refl, ap, sym}
 use Rattle.std.proofs.Common.{◌∙◌, arith, count_by}
 use Rattle.std.specs.List.{Contains}
 use Rattle.std.proofs.lemmas.Bool.{eq-eqb, eqb-true, le-leb, ltb-true}
 use Rattle.std.proofs.lemmas.Bool.{ltb-false, and_from, cases_eq, false≢true}
-use Rattle.std.proofs.lemmas.List.Sums.{count_by-le-length}
 use Rattle.std.proofs.lemmas.List.Elements.{Contains-append_left, Contains-append_right}
 use Rattle.calls_core.specs.declared.history.Call.{Call}
 use Rattle.calls_core.specs.Lists.{Each}

@@ -1,8 +1,7 @@
 -- Zones that are sorted by key, value and rank.
-use Rattle.std.proofs.Common.{◌≡◌, ℕ, suc, ◌≤◌, Bool, true, false}
-use Rattle.std.proofs.Common.{cond, ◌==◌, nat_lt, List, [], ◌∷◌, get_or, refl, ap, sym, ◌∙◌}
+use Rattle.std.proofs.Common.{◌≡◌, ℕ, ◌≤◌, Bool, true, false}
+use Rattle.std.proofs.Common.{cond, ◌==◌, nat_lt, List, get_or, refl, ap, sym, ◌∙◌}
 use Rattle.std.proofs.Common.{arith}
-use Rattle.std.specs.List.{AllPairs}
 use Rattle.std.specs.List.Sorted.{IsSortedBy}
 use Rattle.std.specs.Ordering.{is_lt, nat_cmp, ordering_then}
 use Rattle.std.specs.declared.cmp.Ordering.{Ordering}
@@ -12,7 +11,6 @@ use Rattle.std.proofs.lemmas.Bool.{ltb-false, eq-eqb, false≢true}
 use Rattle.std.proofs.lemmas.Cmp.{nat_cmp_total, on_total, then_total}
 use Rattle.std.proofs.lemmas.List.Sorted.{ranks_by, sorted_far}
 use Rattle.calls_core.specs.Lists.{EachPair}
-use Rattle.calls_core.proofs.Filters.{each_from_all}
 use Rattle.calls_distinct.specs.declared.zone.Zone.{Zone}
 use Rattle.calls_distinct.specs.Cells.{value}
 use Rattle.calls_distinct.specs.kept.Zones.{key, rank, zone_cmp, NotAfter}

@@ -1,4 +1,4 @@
-use Rattle.std.proofs.Common.{ℕ, ◌≡◌, ◌<◌, ◌≤◌, get_or, sym, subst, arith, inl, inr}
+use Rattle.std.proofs.Common.{◌≤◌, get_or, sym, subst, arith, inl, inr}
 use Rattle.std.proofs.lemmas.Bool.{cases_order}
 use Rattle.calls_core.specs.declared.history.Event.{Event}
 use Rattle.calls_distinct.proofs.searching.events_up_to.Goals as goal
