@@ -1,5 +1,5 @@
 -- Every history has a linearization, shows a fault, or shows why it isn't decided.
-use Rattle.std.proofs.Common.{◌≡◌, ℕ, ◌⊎◌, inl, inr, true, List, [], ◌∷◌}
+use Rattle.std.proofs.Common.{◌≡◌, ℕ, ◌+◌, count_by, ◌⊎◌, inl, inr, true, List, [], ◌∷◌}
 use Rattle.std.proofs.Common.{Bool, false, refl, ap, sym, ◌∙◌, arith, subst}
 use Rattle.std.specs.List.{Contains}
 use Rattle.std.proofs.lemmas.Bool.{cases_lt, cases_eq, leb-true}
@@ -21,6 +21,9 @@ use Rattle.calls_serial.specs.Outcomes.{AreBothPending}
 use Rattle.calls_serial.specs.Laws.{IsSerial}
 use Rattle.calls_serial.proofs.Exactly as serial
 use Rattle.calls_cells.specs.declared.outcome.Undecided.{Undecided}
+use Rattle.calls_distinct.specs.declared.cell.Fault.TheVariants.{Nowhere}
+use Rattle.calls_distinct.specs.Cells.{is_put, put_by, put_pending_by, FromNowhere, Shows}
+use Rattle.calls_distinct.specs.Outcomes.{AreAllPut}
 use Rattle.calls_cells.specs.Faults.{HasFault, IsRepeated, DoOverlap, ShowsUndecided}
 use Rattle.calls_cells.proofs.Searching.{each_at, each_or_one}
 
@@ -155,6 +158,33 @@ puts (x ∷ past) = elim (puts past) [
   ]
 ]
 
+-- GETS OF VALUES THAT WERE NEVER PUT
+
+module _ (past : List Event) where
+  abbrev NotNowhere : Call → Type 0
+  NotNowhere g = FromNowhere (completed_calls past) (pending_calls past) g → ⊥
+
+  one_put : (g : Call) → Contains (completed_calls past) g
+      → NotNowhere g ⊎ FromNowhere (completed_calls past) (pending_calls past) g
+  one_put g known = elim (got_or_not (is_put g.op)) [
+    | inl put ↦ inl (λ f. absurd (let both : true ≡ false = sym put ∙ f.get in cc))
+    | inr get ↦ elim (cases_eq (value g) 0) [
+      | inl zero ↦ inl (λ f. f.some zero)
+      | inr some ↦ elim (cases_eq (count_by (put_by (value g) g.last) (completed_calls past)
+          + count_by (put_pending_by (value g) g.last) (pending_calls past)) 0) [
+            | inl none ↦ inr (record { known = known; get = get; some = some; none = none })
+            | inr put ↦ inl (λ f. put f.none)
+          ]
+    ]
+  ]
+
+  pub puts_or_not : AreAllPut past ⊎ ((g : Call) × Shows past (Nowhere g))
+  puts_or_not = elim (each_or_one NotNowhere
+      (FromNowhere (completed_calls past) (pending_calls past)) (completed_calls past) one_put) [
+        | inr r ↦ inr (r.0, r.2)
+        | inl each ↦ inl (λ g f. each_at NotNowhere (completed_calls past) g each f.known f)
+      ]
+
 -- EVERY HISTORY
 
 pub every_history : (past : List Event) → IsHistoryOf Cell past
@@ -169,12 +199,12 @@ every_history past h = elim (values past) [
       | inl l ↦ inl l
       | inr f ↦ inr (inl (inr f))
     ]
-    | inr o ↦ inr (inr (
-      record { value = v.0; first = o.0; second = o.1 },
-      record {
-        repeated = v.1;
-        overlap = o.2;
-      },
-    ))
+    | inr o ↦ elim (puts_or_not past) [
+      | inr g ↦ inr (inl (inl (Nowhere g.0, g.1)))
+      | inl put ↦ inr (inr (
+        record { value = v.0; first = o.0; second = o.1 },
+        record { outside = record { repeated = v.1; overlap = o.2 }; put = put },
+      ))
+    ]
   ]
 ]

@@ -6,6 +6,7 @@ use Rattle.calls_core.specs.declared.history.Call.{Call}
 use Rattle.calls_core.specs.Histories.{pending_calls, completed_calls}
 use Rattle.calls_distinct.specs.declared.cell.Fault as distinct_cell
 use Rattle.calls_distinct.specs.Cells as distinct
+use Rattle.calls_distinct.specs.Outcomes.{AreAllPut}
 use Rattle.calls_serial.specs.Faults as serial
 use Rattle.calls_serial.specs.Outcomes.{AreBothPending}
 use Rattle.calls_cells.specs.declared.outcome.Fault.{Fault}
@@ -36,7 +37,12 @@ pub record DoOverlap (past : List Event) (o p : PendingCall) : Type 0 where
   pub is : past ≡ late ++ earlier
   pub both : AreBothPending (pending_calls earlier) o p
 
--- why nothing is decided
-pub record ShowsUndecided (past : List Event) (u : Undecided) : Type 0 where
+-- the calls are of neither class
+pub record IsOutside (past : List Event) (u : Undecided) : Type 0 where
   pub repeated : IsRepeated past u.value
   pub overlap : DoOverlap past u.first u.second
+
+-- why nothing is decided: the calls are of neither class, and each value that was got was put
+pub record ShowsUndecided (past : List Event) (u : Undecided) : Type 0 where
+  pub outside : IsOutside past u
+  pub put : AreAllPut past

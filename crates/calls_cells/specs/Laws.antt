@@ -8,7 +8,7 @@ use Rattle.calls_core.specs.Outcomes.{IsOrderOf, HasOrderOf}
 use Rattle.calls_cells.specs.declared.outcome.Fault.{Fault}
 use Rattle.calls_cells.specs.declared.outcome.Outcome.{Outcome}
 use Rattle.calls_cells.specs.declared.outcome.Undecided.{Undecided}
-use Rattle.calls_cells.specs.Faults.{Shows, HasFault, ShowsUndecided}
+use Rattle.calls_cells.specs.Faults.{Shows, HasFault, IsOutside, ShowsUndecided}
 use Rattle.calls_cells.specs.Outcomes.{IsOutcome}
 
 abbrev pub AFaultLeavesNoOrder : Type 0
@@ -27,10 +27,11 @@ EveryHistoryIsDecided =
     (past : List Event) → IsHistoryOf Cell past
     → HasOrderOf Cell past ⊎ (HasFault past ⊎ ((u : Undecided) × ShowsUndecided past u))
 
-abbrev pub ItStaysUndecided : Type 0
-ItStaysUndecided =
+-- so what isn't decided stays so, until a get returns a value that was never put
+abbrev pub ItStaysOutside : Type 0
+ItStaysOutside =
     (x : Event) (past : List Event) (u : Undecided) → IsHistoryOf Cell (x ∷ past)
-    → ShowsUndecided past u → ShowsUndecided (x ∷ past) u
+    → IsOutside past u → IsOutside (x ∷ past) u
 
 -- a history of a database is one of a cell, and what is found of the cell holds of the database
 pub record IsACell (n : ℕ) (events : List Event) : Type 0 where

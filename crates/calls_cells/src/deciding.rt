@@ -1,10 +1,11 @@
 //! Decides histories of a cell by two classes: distinct values and serial puts.
-ghost use Rattle.std.specs.Prelude.{◌≡◌, ◌≤◌, length, reverse, take, IfOk};
+ghost use Rattle.std.specs.Prelude.{◌≡◌, ◌+◌, ◌<◌, ◌≤◌, ℕ, length, reverse, take, IfOk};
 ghost use Rattle.calls_core.specs.declared.history.Kind.TheVariants.{Cell};
 ghost use Rattle.calls_core.specs.Histories.{IsHistoryOf, clock};
 ghost use Rattle.calls_core.specs.Beginnings.{past_at};
 ghost use Rattle.calls_cells.specs.Outcomes.{IsOutcome};
-ghost use Rattle.calls_cells.specs.Faults.{ShowsUndecided};
+ghost use Rattle.calls_core.specs.Outcomes.{HasOrderOf};
+ghost use Rattle.calls_cells.specs.Faults.{IsOutside};
 ghost use Rattle.calls_cells.specs.kept.Tries.{IsTry};
 
 use crate::outcome::{Fault, Outcome, Undecided};
@@ -18,7 +19,7 @@ enum Try {
     Ordered(PlacedCalls),
     /// It has none, since the event at this index shows this fault.
     Refused(usize, Fault),
-    /// It is not decided.
+    /// It is of neither class.
     Open(Undecided),
 }
 
@@ -46,9 +47,34 @@ fn try_both(alloc: Global, events: &Part<'_, '_>, end: usize) -> Result<Try, All
     }
 }
 
-/// Finds, by bisection, the first event with which nothing is decided, or a fault before it.
+/// Refuses the first get of a value that was never put, or leaves the calls undecided.
 ///
-/// Nothing is decided of all events.
+/// From the event at index `low` on they are of neither class.
+fn leave_open(
+    alloc: Global,
+    events: &Part<'_, '_>,
+    low: usize,
+    undecided: Undecided,
+) -> Result<Outcome, AllocError>
+    requires history { IsHistoryOf Cell (reverse events.now) }
+    requires within { low < length events.now }
+    requires ordered { HasOrderOf Cell (past_at low events.now) }
+    requires outside { IsOutside (past_at (low + 1) events.now) undecided }
+    ensures { (end : ℕ) → IfOk result (IsOutcome Cell events.now end) }
+{
+    match calls_distinct::first_nowhere(alloc, events)? {
+        Some((i, get)) => {
+            let fault = calls_distinct::Fault::Nowhere(get);
+            Ok(Outcome::Refused(i, Fault::Distinct(fault)))
+        }
+        None => Ok(Outcome::Undecided(low, undecided)),
+    }
+}
+
+/// Finds, by bisection, the first event with which the calls are of neither class, or a fault
+/// before it.
+///
+/// All calls together are of neither class.
 fn decide_beginning(
     alloc: Global,
     events: &Part<'_, '_>,
@@ -57,7 +83,7 @@ fn decide_beginning(
 ) -> Result<Outcome, AllocError>
     requires history { IsHistoryOf Cell (reverse events.now) }
     requires late { clock (reverse events.now) ≤ end }
-    requires open { ShowsUndecided (reverse events.now) undecided }
+    requires outside { IsOutside (reverse events.now) undecided }
     ensures { IfOk result (IsOutcome Cell events.now end) }
 {
     let mut undecided = undecided;
@@ -75,13 +101,13 @@ fn decide_beginning(
             }
         }
     }
-    Ok(Outcome::Undecided(low, undecided))
+    leave_open(alloc, events, low, undecided)
 }
 
 /// Decides whether the calls of a cell have a linearization.
 ///
 /// This is decided if each value that was got was put at most once (0 never), or if no two puts
-/// overlap. A database is decided in the same way.
+/// overlap, or if a value was got that was never put. A database is decided in the same way.
 pub fn decide(alloc: Global, events: &Part<'_, '_>, end: usize) -> Result<Outcome, AllocError>
     requires history { IsHistoryOf Cell (reverse events.now) }
     requires late { clock (reverse events.now) ≤ end }

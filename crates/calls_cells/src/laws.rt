@@ -16,9 +16,9 @@ pub fn every_history_is_decided()
     ensures { laws.EveryHistoryIsDecided }
 {}
 
-/// States that what isn't decided stays so, whatever follows.
-pub fn it_stays_undecided()
-    ensures { laws.ItStaysUndecided }
+/// States that calls of neither class stay so, whatever follows.
+pub fn it_stays_outside()
+    ensures { laws.ItStaysOutside }
 {}
 
 /// States that what is found of the history of a cell holds of a database with the same history.

@@ -12,7 +12,7 @@ pub enum Fault {
 
 /// Why nothing is decided: a get returned a value that is not distinct, and two puts overlap.
 ///
-/// The value was put twice, or it is 0 and was put.
+/// The value was put twice, or it is 0 and was put. Each get returned a value that was put by then.
 #[derive(Clone, Copy, Debug, PartialEq, Eq)]
 pub struct Undecided {
     /// The value that a get returned.
@@ -28,7 +28,8 @@ pub struct Undecided {
 pub enum Outcome {
     /// The calls have this linearization.
     Ordered(PlacedCalls),
-    /// They have none: the event at this index is the first with which they show a fault.
+    /// They have none: the event at this index is the first with which they show a fault, among
+    /// those with which something is decided.
     Refused(usize, Fault),
     /// The event at this index is the first with which nothing is decided.
     Undecided(usize, Undecided),

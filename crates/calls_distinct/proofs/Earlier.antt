@@ -10,9 +10,9 @@ use Rattle.std.proofs.lemmas.List.Sorted.{IsPermutation-refl}
 use Rattle.calls_core.specs.declared.history.Kind.{Kind}
 use Rattle.calls_core.specs.declared.history.Action.{Action}
 use Rattle.calls_core.specs.declared.history.Action.TheVariants.{Invoke, Respond}
+use Rattle.calls_core.specs.declared.history.Reply.{Reply}
 use Rattle.calls_core.specs.declared.history.Event.{Event}
 use Rattle.calls_core.specs.declared.history.PendingCall.{PendingCall}
-use Rattle.calls_core.specs.declared.history.Reply.{Reply}
 use Rattle.calls_core.specs.declared.history.Call.{Call}
 use Rattle.calls_core.specs.Histories.{clock, pending_of, without, invoked_by, pending_after}
 use Rattle.calls_core.specs.Histories.{pending_calls, completion, ended_call, completed_calls}
@@ -50,32 +50,39 @@ count_without p w (y ∷ os) o e =
       )
     ] e
 
--- an event makes no count of calls smaller
-counted_more : (p : Call → Bool) (q : PendingCall → Bool)
-    → ((n : ℕ) (r : Reply) (o : PendingCall) → p (completion n r o) ≡ q o)
-    → (kind : Kind) (x : Event) (action : Action) (o : Option PendingCall)
-    (os : List PendingCall) (cs : List Call) → pending_of x.worker os ≡ o → IsNextOf kind action o
-    → count_by p cs + count_by q os
-    ≤ count_by p (ended_call x action o ++ cs) + count_by q (pending_after x action os)
-counted_more p q same kind x (Invoke k op) o os cs e h = omega (
+-- the pending call that an event adds, counted by a test
+abbrev pub invoked : (PendingCall → Bool) → Event → Action → ℕ
+invoked q x (Invoke k op) = one (q (invoked_by x k op))
+invoked q x (Respond r) = 0
+
+-- counts of calls, whether or not they have completed, with one more event
+pub counted_next : (p : Call → Bool) (q : PendingCall → Bool)
+    → ((t : ℕ) (r : Reply) (o : PendingCall) → p (completion t r o) ≡ q o) → (kind : Kind)
+    → (x : Event) (action : Action) (o : Option PendingCall) (os : List PendingCall)
+    → (cs : List Call) → pending_of x.worker os ≡ o → IsNextOf kind action o
+    → count_by p (ended_call x action o ++ cs) + count_by q (pending_after x action os)
+    ≡ count_by p cs + count_by q os + invoked q x action
+counted_next p q same kind x (Invoke k op) o os cs e h = omega (
   arith,
-  count_append q os
-      (invoked_by x k op ∷ []),
+  count_append q os (invoked_by x k op ∷ []),
+  count_cons q (invoked_by x k op) [],
 )
-counted_more p q same kind x (Respond r) None os cs e h = absurd h
-counted_more p q same kind x (Respond r) (Some o) os cs e h = omega (
+counted_next p q same kind x (Respond r) None os cs e h = absurd h
+counted_next p q same kind x (Respond r) (Some o) os cs e h = omega (
   arith,
   count_without q x.worker os o e,
   count_cons p (completion x.at r o) cs,
   ap one (same x.at r o),
 )
 
-times_more : (kind : Kind) (v : ℕ) (x : Event) (past : List Event) → IsHistoryOf kind (x ∷ past)
+pub times_more : (kind : Kind) (v : ℕ) (x : Event) (past : List Event) → IsHistoryOf kind (x ∷ past)
     → times (completed_calls past) (pending_calls past) v
     ≤ times (completed_calls (x ∷ past)) (pending_calls (x ∷ past)) v
-times_more kind v x past h = counted_more (put_call v) (put_pending v) (λ n r o. refl) kind x
-    x.action (pending_of x.worker (pending_calls past)) (pending_calls past) (completed_calls past)
-    refl h.1
+times_more kind v x past h = omega (
+  arith,
+  counted_next (put_call v) (put_pending v) (λ t r p. refl) kind x x.action
+      (pending_of x.worker (pending_calls past)) (pending_calls past) (completed_calls past) refl h.1,
+)
 
 got_more : (v : ℕ) (x : Event) (past : List Event) → is_got (completed_calls past) v ≡ true
     → is_got (completed_calls (x ∷ past)) v ≡ true

@@ -12,3 +12,4 @@ pub mod Verdicts
 pub mod Judging
 pub mod Earlier
 pub mod Existing
+pub mod NeverPut

@@ -1,11 +1,14 @@
 -- What the outcome of a decision about a cell or a database says.
-use Rattle.std.specs.Prelude.{◌≡◌, ℕ, ◌+◌, ◌<◌, true, Bool, ◌&&◌, ◌==◌, count_by, List, reverse}
+use Rattle.std.specs.Prelude.{◌≡◌, ℕ, ◌+◌, ◌<◌, ◌≤◌, true, Bool, ◌&&◌, ◌==◌, count_by, List}
+use Rattle.std.specs.Prelude.{length, reverse}
 use Rattle.calls_core.specs.declared.history.Kind.{Kind}
 use Rattle.calls_core.specs.declared.history.Event.{Event}
 use Rattle.calls_core.specs.declared.history.PendingCall.{PendingCall}
 use Rattle.calls_core.specs.declared.history.Call.{Call}
 use Rattle.calls_core.specs.Histories.{completed_calls, pending_calls}
+use Rattle.calls_core.specs.Beginnings.{past_at}
 use Rattle.calls_core.specs.Outcomes.{IsOrderOf, IsFirstFault}
+use Rattle.calls_distinct.specs.declared.cell.Fault.TheVariants.{Nowhere}
 use Rattle.calls_distinct.specs.declared.cell.Outcome.{Outcome}
 use Rattle.calls_distinct.specs.declared.cell.Outcome.TheVariants.{Ordered, Refused, Repeated}
 use Rattle.calls_distinct.specs.Cells.{IsStore, put_call, put_pending, is_got, IsDistinct, Shows}
@@ -32,3 +35,13 @@ IsOutcome events end (Refused i fault) =
     (kind : Kind) → IsStore kind → IsFirstFault (λ past. Shows past fault) kind events i
 IsOutcome events end (Repeated v position) =
     IsRepeated (completed_calls (reverse events)) (pending_calls (reverse events)) v position
+
+-- no get returned a value of which no put was invoked before the get's response
+abbrev pub AreAllPut : List Event → Type 0
+AreAllPut past = (g : Call) → Shows past (Nowhere g) → ⊥
+
+-- the event at index i is the first response of a get with a value that was never put until then
+pub record IsFirstNowhere (events : List Event) (i : ℕ) (g : Call) : Type 0 where
+  pub within : i < length events
+  pub shows : Shows (past_at (i + 1) events) (Nowhere g)
+  pub before : (j : ℕ) → j ≤ i → AreAllPut (past_at j events)

@@ -1,4 +1,5 @@
 pub mod Groups
+pub mod Nowhere
 pub mod Records
 pub mod Verdicts
 pub mod Zones

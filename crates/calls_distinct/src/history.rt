@@ -3,11 +3,34 @@ ghost use Rattle.std.specs.Prelude.{◌≡◌, ◌++◌, reverse, IfOk, OnOk};
 ghost use Rattle.calls_core.specs.Histories.{pending_of, pending_after, ended_call};
 ghost use Rattle.calls_core.specs.Histories.{completed_calls, pending_calls};
 ghost use Rattle.calls_core.specs.Linearizations.{answered_calls};
+ghost use Rattle.calls_distinct.specs.kept.Nowhere.{EndsWith};
 ghost use Rattle.calls_distinct.specs.kept.Zones.{put_answer, begun_calls};
 
 use crate::reading::is_put;
 use calls_core::{Action, Call, Event, Part, PendingCall, Reply, take_pending};
 use std::alloc::{AllocError, Global};
+
+/// Follows one event, which makes a call pending, or completes the call that it returns.
+pub(crate) fn follow(
+    pending: &mut Vec<PendingCall>,
+    x: &Event,
+) -> Result<Option<Call>, AllocError>
+    ensures call { IfOk result (λ call. EndsWith x.now (pending_of x.now.worker pending.old.items)
+        call) }
+    ensures pending { OnOk result (pending.new.items ≡ pending_after x.now x.now.action
+        pending.old.items) }
+{
+    match x.action {
+        Action::Invoke(object, op) => {
+            pending.push(PendingCall::new(*x, object, op))?;
+            Ok(None)
+        }
+        Action::Respond(reply) => match take_pending(pending, x.worker) {
+            Some(o) => Ok(Some(o.complete(reply, x.at))),
+            None => Ok(None),
+        },
+    }
+}
 
 /// Adds one event: it makes a call pending, or completes it.
 fn note(calls: &mut Vec<Call>, pending: &mut Vec<PendingCall>, x: &Event) -> Result<(), AllocError>
@@ -16,15 +39,8 @@ fn note(calls: &mut Vec<Call>, pending: &mut Vec<PendingCall>, x: &Event) -> Res
     ensures pending { OnOk result (pending.new.items ≡ pending_after x.now x.now.action
         pending.old.items) }
 {
-    match x.action {
-        Action::Invoke(object, op) => {
-            pending.push(PendingCall::new(*x, object, op))?;
-        }
-        Action::Respond(reply) => {
-            if let Some(o) = take_pending(pending, x.worker) {
-                calls.push(o.complete(reply, x.at))?;
-            }
-        }
+    if let Some(call) = follow(pending, x)? {
+        calls.push(call)?;
     }
     Ok(())
 }

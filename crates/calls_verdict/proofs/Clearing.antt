@@ -1,5 +1,5 @@
 -- What a decision on one object says before each position.
-use Rattle.std.proofs.Common.{◌≡◌, ℕ, ◌+◌, ◌<◌, ◌≤◌, ◌⊎◌, inl, inr, List, [], ◌∷◌, ◌++◌, length}
+use Rattle.std.proofs.Common.{◌≡◌, ℕ, zero, suc, refl, ◌+◌, ◌<◌, ◌≤◌, ◌⊎◌, inl, inr, List, [], ◌∷◌, ◌++◌, length}
 use Rattle.std.proofs.Common.{ap, sym, ◌∙◌, arith, subst, reverse, drop, get_or}
 use Rattle.std.proofs.lemmas.Bool.{cases_lt}
 use Rattle.calls_core.specs.declared.history.Kind.{Kind}
@@ -9,22 +9,36 @@ use Rattle.calls_core.specs.declared.history.Event.{Event}
 use Rattle.calls_core.specs.Histories.{clock, part, IsHistoryOf}
 use Rattle.calls_core.specs.Beginnings.{past_at, until}
 use Rattle.calls_core.specs.Outcomes.{HasOrderOf, IsFirstFault}
-use Rattle.calls_core.proofs.Beginnings.{past_split, history_at, history_until, order_until}
-use Rattle.calls_core.proofs.Beginnings.{past_next, history_of_earlier}
+use Rattle.calls_core.proofs.Beginnings.{past_split, past_all, history_until, past_next}
+use Rattle.calls_core.proofs.Beginnings.{history_of_earlier}
 use Rattle.calls_verdict.specs.declared.verdict.Fault.{Fault}
 use Rattle.calls_verdict.specs.declared.verdict.Cause.{Cause}
+use Rattle.calls_verdict.specs.declared.verdict.Cause.TheVariants.{Values}
 use Rattle.calls_verdict.specs.Faults.{Shows, ShowsUndecided, IsDecided}
 use Rattle.calls_verdict.specs.Verdicts.{IsHard, IsRefusedAt, IsOrdered, IsClear, IsSettled}
-use Rattle.calls_verdict.proofs.OfKinds.{it_stays_undecided}
 use Rattle.calls_verdict.proofs.Untils.{until_in, until_out, clock_until, clock_later, until_at}
 use Rattle.calls_verdict.proofs.Untils.{until_of, until_all}
 
-stays_undecided : (kind : Kind) (late past : List Event) (u : Cause)
-    → IsHistoryOf kind (late ++ past)
-    → ShowsUndecided kind past u → ShowsUndecided kind (late ++ past) u
-stays_undecided kind [] past u h s = s
-stays_undecided kind (x ∷ late) past u h s =
-    it_stays_undecided kind x (late ++ past) u h (stays_undecided kind late past u h.2 s)
+-- the events before a position, of a prefix of all, are a prefix
+until_prefix : (m : ℕ) (events : List Event) (d : Event) (i : ℕ) → i ≤ length events
+    → (j : ℕ) × (j ≤ i) × (until m (past_at i events) ≡ past_at j events)
+until_prefix m events d zero le = (zero, omega arith, refl)
+until_prefix m events d (suc i) le =
+    let next : suc i ≡ i + 1 = omega arith in
+    let x = get_or events i d in
+    let is : past_at (suc i) events ≡ x ∷ past_at i events =
+    ap (λ k. past_at k events) next ∙ past_next events i d (omega arith) in
+    elim (cases_lt x.at m) [
+      | inl early ↦
+          (suc i, omega arith, ap (until m) is ∙ until_in m x (past_at i events) early ∙ sym is)
+      | inr late ↦
+          (let r = until_prefix m events d i (omega arith) in
+          let up = r.1 in (
+            r.0,
+            omega arith,
+            ap (until m) is ∙ until_out m x (past_at i events) late ∙ r.2,
+          ))
+    ]
 
 module _ (kind : Kind) (events : List Event) (i : ℕ) (d : Event)
     (h : IsHistoryOf kind (reverse events))
@@ -52,28 +66,12 @@ module _ (kind : Kind) (events : List Event) (i : ℕ) (d : Event)
         ]
       ]
 
-  order_earlier : (m : ℕ) → HasOrderOf kind (past_at i events)
-      → until m (reverse events) ≡ until m (past_at i events)
-      → HasOrderOf kind (until m (reverse events))
-  order_earlier m l is =
-      subst (HasOrderOf kind) (sym is) (order_until kind m (past_at i events)
-      (history_at kind i events h) l)
-
   later : (m : ℕ) (more : List Event) → until m (reverse events) ≡ more ++ e ∷ past_at i events
       → e.at + 1 ≤ clock (until m (reverse events))
   later m more is =
       subst (λ q. e.at + 1 ≤ clock q) (sym is)
       (clock_later kind more (e ∷ past_at i events) (subst (IsHistoryOf kind) is
       (history_until kind m (reverse events) h)))
-
-  -- up to the position of the event at index i
-  order_up_to : (m : ℕ) → m ≤ e.at → HasOrderOf kind (past_at i events)
-      → HasOrderOf kind (until m (reverse events))
-  order_up_to m le l =
-      elim (cases_until m) [
-        | inl w ↦ absurd (omega (arith, later m w.0 w.1, clock_until m (reverse events)))
-        | inr is ↦ order_earlier m l is
-      ]
 
   -- the events before its position are those before it
   until_before : until e.at (reverse events) ≡ past_at i events
@@ -85,19 +83,32 @@ module _ (kind : Kind) (events : List Event) (i : ℕ) (d : Event)
         | inr is ↦ is ∙ until_all e.at (past_at i events) early
       ]
 
-  pub clear_up_to : (u : Cause) (m : ℕ) → ShowsUndecided kind (e ∷ past_at i events) u
-      → HasOrderOf kind (past_at i events)
+  -- up to the position of the event at index i
+  pub ordered_up_to : (t m : ℕ) → m ≤ e.at
+      → ((j : ℕ) → j ≤ i → IsOrdered kind t (past_at j events) (past_at i events))
+      → IsOrdered kind t (until m (reverse events)) (until e.at (reverse events))
+  ordered_up_to t m le before =
+      elim (cases_until m) [
+        | inl w ↦ absurd (omega (arith, later m w.0 w.1, clock_until m (reverse events)))
+        | inr is ↦
+            (let r = until_prefix m events d i (omega arith) in
+            subst (λ q. IsOrdered kind t q (until e.at (reverse events))) (sym (is ∙ r.2))
+            (subst (IsOrdered kind t (past_at r.0 events)) (sym until_before) (before r.0 r.1)))
+      ]
+
+  -- an object that isn't decided from the event at index i on, at each position
+  pub open_at : (u : Cause) (m : ℕ)
+      → ((j : ℕ) → i < j → ShowsUndecided kind (past_at j events) u)
+      → ((j : ℕ) → j ≤ i → HasOrderOf kind (past_at j events))
       → HasOrderOf kind (until m (reverse events))
       ⊎ ((v : Cause) × ShowsUndecided kind (until m (reverse events)) v)
-  clear_up_to u m s l =
-      elim (cases_until m) [
-        | inl w ↦ inr (
-          u,
-          subst (λ q. ShowsUndecided kind q u) (sym w.1)
-              (stays_undecided kind w.0 (e ∷ past_at i events) u
-              (subst (IsHistoryOf kind) w.1 (history_until kind m (reverse events) h)) s),
-        )
-        | inr is ↦ inl (order_earlier m l is)
+  open_at u m shows before =
+      let r = until_prefix m events d (length events) (omega arith) in
+      let is : until m (reverse events) ≡ past_at r.0 events =
+      ap (until m) (sym (past_all events (length events) (omega arith))) ∙ r.2 in
+      elim (cases_lt i r.0) [
+        | inl after ↦ inr (u, subst (λ q. ShowsUndecided kind q u) (sym is) (shows r.0 after))
+        | inr up ↦ inl (subst (HasOrderOf kind) (sym is) (before r.0 up))
       ]
 
   -- the events up to it are those before the next position
@@ -115,60 +126,17 @@ module _ (kind : Kind) (events : List Event) (i : ℕ) (d : Event)
             history,
       ))
 
-  pub whole_shows : (u : Cause) → ShowsUndecided kind (e ∷ past_at i events) u
-      → ShowsUndecided kind (reverse events) u
-  whole_shows u s =
-      subst (λ q. ShowsUndecided kind q u) (sym split)
-      (stays_undecided kind (reverse (drop (i + 1) events)) (e ∷ past_at i events) u history s)
+-- WHAT IS REFUSED
 
--- WHAT IS REFUSED, OF EACH KIND
-
--- what each refusal says
-pub record IsRefusal (kind : Kind) (events : List Event) (t i : ℕ) (f : Fault) : Type 0 where
-  pub within : i < length events
-  pub shows : Shows kind (past_at (i + 1) events) f
-  pub ordered : IsOrdered kind t (past_at i events) (past_at i events)
-
-from_first : (kind : Kind) (events : List Event) (t i : ℕ) (f : Fault)
-    → (HasOrderOf kind (past_at i events)
-    → IsOrdered kind t (past_at i events) (past_at i events))
-    → IsFirstFault (λ past. Shows kind past f) kind events i → IsRefusal kind events t i f
-from_first kind events t i f h r = record {
+-- the first faulty event of an object whose calls are always decided
+pub refused_first : (kind : Kind) (events : List Event) (t i : ℕ) (f : Fault)
+    → ((past more : List Event) → HasOrderOf kind past → IsOrdered kind t past more)
+    → IsFirstFault (λ past. Shows kind past f) kind events i → IsRefusedAt kind events t i f
+refused_first kind events t i f ordered r = record {
   within = r.within;
   shows = r.shows;
-  ordered = h (r.before i (omega arith));
+  before = λ j le. ordered (past_at j events) (past_at i events) (r.before j le);
 }
-
-pub refusal_of : (kind : Kind) (events : List Event) (t i : ℕ) (f : Fault)
-    → IsRefusedAt kind events t i f → IsRefusal kind events t i f
-refusal_of (Eventcount n) events t i f r = from_first (Eventcount n) events t i f (λ l. l) r
-refusal_of Sequencer events t i f r = from_first Sequencer events t i f (λ l. l) r
-refusal_of (Semaphores units) events t i f r = from_first (Semaphores units) events t i f (λ l. l) r
-refusal_of Cell events t i f r = from_first Cell events t i f (λ l. l) r
-refusal_of (Database n) events t i f r = from_first (Database n) events t i f (λ l. l) r
-refusal_of (Buffer n) events t i f r = record { within = r.0; shows = r.1; ordered = r.2 }
-
-ordered_by : (kind : Kind) (t : ℕ) (past other more same : List Event)
-    → (HasOrderOf kind past → HasOrderOf kind other) → more ≡ same
-    → IsOrdered kind t past more → IsOrdered kind t other same
-ordered_by (Eventcount n) t past other more same f e h = f h
-ordered_by Sequencer t past other more same f e h = f h
-ordered_by (Semaphores units) t past other more same f e h = f h
-ordered_by Cell t past other more same f e h = f h
-ordered_by (Database n) t past other more same f e h = f h
-ordered_by (Buffer n) t past other more same f e (inl l) = inl (f l)
-ordered_by (Buffer n) t past other more same f e (inr hard) =
-    inr (subst (IsHard (Buffer n) t) e hard)
-
--- up to the position of the event at index i
-pub ordered_up_to : (kind : Kind) (events : List Event) (i : ℕ) (d : Event)
-    → IsHistoryOf kind (reverse events) → i < length events → (t m : ℕ)
-    → m ≤ (get_or events i d).at → IsOrdered kind t (past_at i events) (past_at i events)
-    → IsOrdered kind t (until m (reverse events)) (until (get_or events i d).at (reverse events))
-ordered_up_to kind events i d h lt t m le l =
-    ordered_by kind t (past_at i events) (until m (reverse events)) (past_at i events)
-    (until (get_or events i d).at (reverse events))
-    (order_up_to kind events i d h lt m le) (sym (until_before kind events i d h lt)) l
 
 -- WHAT IS CLEAR, OF EACH KIND
 
@@ -187,8 +155,10 @@ pub ordered_clear : (kind : Kind) (past : List Event) (k m n : ℕ) → m ≤ n
 ordered_clear (Eventcount start) past k m n le h = inl h
 ordered_clear Sequencer past k m n le h = inl h
 ordered_clear (Semaphores units) past k m n le h = inl h
-ordered_clear Cell past k m n le h = inl h
-ordered_clear (Database width) past k m n le h = inl h
+ordered_clear Cell past k m n le (inl l) = inl l
+ordered_clear Cell past k m n le (inr w) = inr (Values w.0, w.1)
+ordered_clear (Database width) past k m n le (inl l) = inl l
+ordered_clear (Database width) past k m n le (inr w) = inr (Values w.0, w.1)
 ordered_clear (Buffer room) past k m n le (inl l) = inl l
 ordered_clear (Buffer room) past k m n le (inr hard) =
     inr (record { later = n; from = le; hard = hard })

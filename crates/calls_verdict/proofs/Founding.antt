@@ -19,6 +19,7 @@ use Rattle.calls_core.specs.Points.{placed_one, by_points, IsPlacedOrder}
 use Rattle.calls_core.specs.Beginnings.{until}
 use Rattle.calls_core.specs.Outcomes.{IsOrderOf, HasOrderOf}
 use Rattle.calls_core.proofs.Beginnings.{order_until, until_split, history_earlier, past_next}
+use Rattle.calls_core.proofs.Beginnings.{past_all}
 use Rattle.calls_core.proofs.Settling.{has_order_from}
 use Rattle.calls_local.proofs.Parts.{part_history_of, part_clock}
 use Rattle.calls_verdict.specs.declared.verdict.Fault.{Fault}
@@ -31,12 +32,12 @@ use Rattle.calls_verdict.specs.declared.verdict.Decision.TheVariants as decision
 use Rattle.calls_verdict.specs.declared.findings.Findings.{Findings}
 use Rattle.calls_verdict.specs.Faults.{Shows, ShowsUndecided}
 use Rattle.calls_verdict.specs.Verdicts.{IsHard, IsDecision, IsCleanBefore, IsOrderedBefore, IsVerdict}
-use Rattle.calls_verdict.specs.Verdicts.{IsOrdered, IsClear, AreClear}
+use Rattle.calls_verdict.specs.Verdicts.{IsRefusedAt, IsOrdered, IsClear, AreClear}
 use Rattle.calls_verdict.specs.kept.Findings.{limit, IsRefused, IsOpen, ArePlaced}
 use Rattle.calls_verdict.specs.kept.Findings.{AreFound, IsEarlier}
 use Rattle.calls_verdict.proofs.Untils.{part_until, until_all}
-use Rattle.calls_verdict.proofs.Clearing.{clear_up_to, until_event, event_early, whole_shows}
-use Rattle.calls_verdict.proofs.Clearing.{IsRefusal, refusal_of, ordered_up_to, order_clear}
+use Rattle.calls_verdict.proofs.Clearing.{until_event, event_early, ordered_up_to, open_at}
+use Rattle.calls_verdict.proofs.Clearing.{order_clear}
 use Rattle.calls_verdict.proofs.Clearing.{ordered_clear, open_clear, settled_order}
 use Rattle.calls_verdict.proofs.Gathering.{placed_more, placed_whole, none_placed, whole_from_parts}
 
@@ -143,8 +144,8 @@ module _ (kinds : List Kind) (past : List Event) (h : IsHistory kinds past) wher
         placed = λ a b. absurd (none-some kept (sym a ∙ refused));
       })
     where
-      r : IsRefusal kind own (clock past) i fault
-      r = refusal_of kind own (clock past) i fault l
+      r : IsRefusedAt kind own (clock past) i fault
+      r = l
 
       own_ordered : IsHistoryOf kind (reverse own)
           → IsOrderedBefore kinds past n (get_or own i d).at
@@ -156,7 +157,7 @@ module _ (kinds : List Kind) (past : List Event) (h : IsHistory kinds past) wher
           (own_until n at (reverse own) mine)
           (subst (λ q. IsOrdered kind (clock past) q (until at (reverse own)))
           (own_until n m (reverse own) mine)
-          (ordered_up_to kind own i d of_kind r.within (clock past) m le r.ordered))))
+          (ordered_up_to kind own i d of_kind r.within (clock past) m le r.before))))
 
       next_shows : IsHistoryOf kind (reverse own) → IsRefused kinds past
           (Some (refusal_at n (get_or own i d) fault))
@@ -221,20 +222,18 @@ module _ (kinds : List Kind) (past : List Event) (h : IsHistory kinds past) wher
             f.clear (λ m le. open_clear kind past n m
             (subst (λ q. HasOrderOf kind q ⊎ ((v : Cause) × ShowsUndecided kind q v))
             (own_until n m (reverse own) mine)
-            (clear_up_to kind own i d of_kind l.0.within u m (subst (λ q. ShowsUndecided kind q u)
-            (past_next own i d l.0.within) l.0.shows) (l.0.before i (omega arith))))
+            (open_at kind own i d of_kind l.within u m l.shows l.before))
             (subst (IsHard kind (clock past)) (mine
-            ∙ ap (part n) (sym (until_all (m + clock past) past (omega arith)))) l.1));
+            ∙ ap (part n) (sym (until_all (m + clock past) past (omega arith)))) l.hard));
         refused = subst (IsRefused kinds past) (sym refused) f.refused;
         undecided = subst (IsOpen kinds past) (sym undecided) (elim first [
           | inl e ↦ subst (IsOpen kinds past) e f.undecided
           | inr e ↦ subst (λ z. IsOpen kinds past (Some z)) (sym e) (record {
             kind = kind;
             is = is;
-            shows = subst (λ q. ShowsUndecided kind q u) mine
-                (whole_shows kind own i d of_kind l.0.within u (subst (λ q. ShowsUndecided kind q u)
-                (past_next own i d l.0.within) l.0.shows));
-            hard = subst (IsHard kind (clock past)) mine l.1;
+            shows = subst (λ q. ShowsUndecided kind q u)
+                (past_all own (length own) (omega arith) ∙ mine) (l.shows (length own) l.within);
+            hard = subst (IsHard kind (clock past)) mine l.hard;
           })
         ]);
         placed = λ a b. absurd (none-some kept (sym b ∙ undecided));

@@ -1,6 +1,6 @@
 -- Beginnings of the events of a buffer.
-use Rattle.std.proofs.Common.{◌≡◌, ℕ, ◌+◌, ◌<◌, ◌≤◌, inl, inr, List, [], ◌∷◌, length, reverse, take}
-use Rattle.std.proofs.Common.{get_or, None}
+use Rattle.std.proofs.Common.{◌≡◌, ℕ, ◌+◌, ◌<◌, ◌≤◌, inl, inr, List, [], ◌∷◌, ◌++◌, length, reverse, take}
+use Rattle.std.proofs.Common.{get_or, drop, None}
 use Rattle.std.proofs.Common.{sym, ◌∙◌, arith, subst}
 use Rattle.std.proofs.lemmas.List.Sorted.{IsPermutation-refl}
 use Rattle.calls_core.specs.declared.history.Kind.{Kind}
@@ -9,10 +9,11 @@ use Rattle.calls_core.specs.declared.history.Event.{Event}
 use Rattle.calls_core.specs.Histories.{IsHistoryOf, clock}
 use Rattle.calls_core.specs.Linearizations.{KeepsOrder}
 use Rattle.calls_core.specs.Beginnings.{past_at, until}
-use Rattle.calls_core.specs.Outcomes.{IsOrderOf, HasOrderOf, IsFirstFault}
+use Rattle.calls_core.specs.Outcomes.{IsOrderOf, HasOrderOf}
 use Rattle.calls_core.proofs.Beginnings.{history_at, orders_before, past_next}
 use Rattle.calls_core.proofs.Lists.{all_pairs_from_each}
 use Rattle.calls_core.proofs.Settling.{has_order_from}
+use Rattle.calls_cells.proofs.Staying.{longer_split}
 use Rattle.calls_cells.proofs.Trying.{before_end}
 use Rattle.calls_buffers.specs.declared.fault.Fault.{Fault}
 use Rattle.calls_buffers.specs.declared.deciding.Outcome.{Outcome}
@@ -20,8 +21,8 @@ use Rattle.calls_buffers.specs.declared.deciding.Outcome.TheVariants.{Ordered, R
 use Rattle.calls_buffers.specs.Faults.{Shows}
 use Rattle.calls_buffers.specs.Outcomes.{IsOutcome}
 use Rattle.calls_verdict.specs.declared.verdict.Cause.TheVariants.{Unfound}
-use Rattle.calls_verdict.specs.Faults.{ShowsUndecided, IsUnfound}
-use Rattle.calls_verdict.specs.Verdicts.{IsOrdered}
+use Rattle.calls_verdict.specs.Faults.{IsUnfound}
+use Rattle.calls_verdict.specs.Verdicts.{IsHard, IsOrdered, IsOpenFrom}
 use Rattle.calls_verdict.proofs.Untils.{until_out, until_all}
 
 -- no events have an order with no calls
@@ -35,13 +36,26 @@ no_events kind [] t e = record {
 }
 no_events kind (x ∷ events) t e = absurd (omega (arith, e))
 
+-- what isn't found of a buffer stays so with more events
+unfound_on : (n m : ℕ) (late past : List Event) → IsHistoryOf (Buffer n) (late ++ past)
+    → IsUnfound n past m → IsUnfound n (late ++ past) m
+unfound_on n m [] past h s = s
+unfound_on n m (x ∷ late) past h s =
+    (let rest = unfound_on n m late past h.2 s in
+    let early : m < clock (late ++ past) = rest.within in
+    let next : clock (late ++ past) ≤ x.at = h.0 in
+    record {
+      within = omega arith;
+      before = subst (HasOrderOf (Buffer n))
+          (sym (until_out m x (late ++ past) (omega arith))) rest.before;
+    })
+
 -- the first events have an order: so nothing is found from the next one on
-pub unfound_at : (n : ℕ) (events : List Event) (low : ℕ) (d : Event)
+pub unfound_from : (n t : ℕ) (events : List Event) (low : ℕ) (d : Event)
     → IsHistoryOf (Buffer n) (reverse events) → low < length events
-    → HasOrderOf (Buffer n) (past_at low events)
-    → IsFirstFault (λ past. ShowsUndecided (Buffer n) past (Unfound (get_or events low d).at))
-    (Buffer n) events low
-unfound_at n events low d h lt order =
+    → HasOrderOf (Buffer n) (past_at low events) → IsHard (Buffer n) t (reverse events)
+    → IsOpenFrom (Buffer n) events t low (Unfound (get_or events low d).at)
+unfound_from n t events low d h lt order hard =
     let e = get_or events low d in
     let is : past_at (low + 1) events ≡ e ∷ past_at low events = past_next events low d lt in
     let next : IsHistoryOf (Buffer n) (e ∷ past_at low events) =
@@ -50,15 +64,21 @@ unfound_at n events low d h lt order =
     let same : until e.at (e ∷ past_at low events) ≡ past_at low events =
     until_out e.at e (past_at low events) (omega arith)
     ∙ until_all e.at (past_at low events) early in
-    let shown : IsUnfound n (e ∷ past_at low events) e.at = record {
+    let shown : IsUnfound n (past_at (low + 1) events) e.at =
+    subst (λ q. IsUnfound n q e.at) (sym is) (record {
       within = omega arith;
       before = subst (HasOrderOf (Buffer n)) (sym same) order;
-    } in
+    }) in
     record {
       within = lt;
-      shows = subst (λ q. IsUnfound n q e.at) (sym is) shown;
+      shows = λ j after.
+          (let split = longer_split events (low + 1) j (omega arith) in
+          subst (λ q. IsUnfound n q e.at) (sym split)
+          (unfound_on n e.at (reverse (drop (low + 1) (take j events))) (past_at (low + 1) events)
+          (subst (IsHistoryOf (Buffer n)) split (history_at (Buffer n) j events h)) shown));
       before = λ j le. orders_before (Buffer n) low j events le (history_at (Buffer n) low events h)
           order;
+      hard = hard;
     }
 
 -- THE SEARCH FOR AN EVENT WITH A FAULT
@@ -70,6 +90,15 @@ pub record IsBetween (n t : ℕ) (events : List Event) (low high : ℕ) (f : Fau
   pub within : high ≤ length events
   pub shown : Shows n (past_at high events) f
   pub ordered : IsOrdered (Buffer n) t (past_at low events) (past_at low events)
+
+-- each shorter prefix has an order, or the first `low` are not of that class
+pub ordered_before : (n t : ℕ) (events : List Event) (low : ℕ)
+    → IsHistoryOf (Buffer n) (reverse events)
+    → IsOrdered (Buffer n) t (past_at low events) (past_at low events) → (j : ℕ) → j ≤ low
+    → IsOrdered (Buffer n) t (past_at j events) (past_at low events)
+ordered_before n t events low h (inl l) j le =
+    inl (orders_before (Buffer n) low j events le (history_at (Buffer n) low events h) l)
+ordered_before n t events low h (inr hard) j le = inr hard
 
 same_between : (n t : ℕ) (events : List Event) (low high i j : ℕ) (f g : Fault) → i ≡ low
     → j ≡ high → g ≡ f → IsBetween n t events low high f → IsBetween n t events i j g

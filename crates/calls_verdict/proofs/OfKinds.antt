@@ -19,7 +19,6 @@ use Rattle.calls_semaphores.proofs.Deciding as taken
 use Rattle.calls_serial.proofs.Databases.{database_is_cell}
 use Rattle.calls_cells.proofs.Faults as stores
 use Rattle.calls_cells.proofs.Classes as stored
-use Rattle.calls_cells.proofs.Staying.{stays}
 use Rattle.calls_distinct.proofs.Earlier.{order_of_none as nothing_ordered}
 use Rattle.calls_buffers.proofs.Refuting as buffers
 use Rattle.calls_verdict.specs.declared.verdict.Fault.{Fault}
@@ -128,26 +127,6 @@ every_kind_is_decided (Database n) past h =
     ]
 every_kind_is_decided (Buffer n) past h =
     elim (nothing_decided n past) [ inl l ↦ inl l | inr w ↦ inr (inr w) ]
-
--- an undecided object stays undecided with one more event
-pub it_stays_undecided : (kind : Kind) (x : Event) (past : List Event) (u : Cause)
-    → IsHistoryOf kind (x ∷ past) → ShowsUndecided kind past u → ShowsUndecided kind (x ∷ past) u
-it_stays_undecided (Eventcount n) x past u h s = absurd s
-it_stays_undecided Sequencer x past u h s = absurd s
-it_stays_undecided (Semaphores units) x past u h s = absurd s
-it_stays_undecided Cell x past (Values u) h s = stays x past u h s
-it_stays_undecided Cell x past (Unfound m) h s = absurd s
-it_stays_undecided (Database n) x past (Values u) h s =
-    stays x past u (cell_history n (x ∷ past) h) s
-it_stays_undecided (Database n) x past (Unfound m) h s = absurd s
-it_stays_undecided (Buffer n) x past (Values u) h s = absurd s
-it_stays_undecided (Buffer n) x past (Unfound m) h s =
-    (let early : m < clock past = s.within in
-    let next : clock past ≤ x.at = h.0 in
-    record {
-      within = omega arith;
-      before = subst (HasOrderOf (Buffer n)) (sym (until_out m x past (omega arith))) s.before;
-    })
 
 -- what is decided and isn't has an order: it is a buffer
 pub decided_order : (kind : Kind) (past : List Event) (u : Cause) → IsDecided kind past

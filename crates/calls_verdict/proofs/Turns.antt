@@ -12,7 +12,6 @@ use Rattle.calls_verdict.specs.declared.verdict.Decision.TheVariants.{Ordered, R
 use Rattle.calls_verdict.specs.Verdicts.{IsDecision}
 use Rattle.calls_verdict.specs.kept.Parts.{IsPart, AreParts}
 use Rattle.calls_verdict.specs.kept.Findings.{HasRoom}
-use Rattle.calls_verdict.proofs.Clearing.{refusal_of}
 
 each_at : (past : List Event) (i k : ℕ) (parts : List (List Event)) (own : List Event)
     → k < length parts
@@ -30,7 +29,7 @@ each_at past i (suc k) (p ∷ parts) own lt is h =
 pub decision_room : (kind : Kind) (own : List Event) (t : ℕ) (d : Decision)
     → IsHistoryOf kind (reverse own)
     → clock (reverse own) ≤ t → t < 2 ^ 64 → IsDecision kind own t d → HasRoom own d
-decision_room kind own t (Refused i f) h le fits is = (refusal_of kind own t i f is).within
+decision_room kind own t (Refused i f) h le fits is = is.within
 decision_room kind own t (Open i u) h le fits is = tt
 decision_room kind own t (Ordered cs) h le fits is = tt
 

@@ -1,14 +1,15 @@
 -- What a verdict on a history says.
 use Rattle.std.specs.Prelude.{◌≡◌, ◌⊎◌, ℕ, ◌+◌, ◌<◌, ◌≤◌, ◌^◌, List, length, reverse, Some, slice_get}
 use Rattle.calls_core.specs.declared.history.Kind.{Kind}
-use Rattle.calls_core.specs.declared.history.Kind.TheVariants.{Buffer}
+use Rattle.calls_core.specs.declared.history.Kind.TheVariants.{Cell, Database, Buffer}
 use Rattle.calls_core.specs.declared.history.Event.{Event}
 use Rattle.calls_core.specs.declared.history.Call.{Call}
 use Rattle.calls_core.specs.Histories.{clock, pending_calls, completed_calls, part}
 use Rattle.calls_core.specs.Linearizations.{IsRun, start, IsAnsweredLinearization}
 use Rattle.calls_core.specs.Points.{IsPlacedOrder}
 use Rattle.calls_core.specs.Beginnings.{past_at, until}
-use Rattle.calls_core.specs.Outcomes.{IsOrderOf, HasOrderOf, IsFirstFault}
+use Rattle.calls_core.specs.Outcomes.{IsOrderOf, HasOrderOf}
+use Rattle.calls_cells.specs.Outcomes as cells
 use Rattle.calls_buffers.specs.Outcomes.{IsSimple}
 use Rattle.calls_verdict.specs.declared.verdict.Fault.{Fault}
 use Rattle.calls_verdict.specs.declared.verdict.Cause.{Cause}
@@ -26,26 +27,35 @@ abbrev pub IsHard : Kind → ℕ → List Event → Type 0
 IsHard (Buffer n) t past = t + 1 < 2 ^ 64 → IsSimple n past → ⊥
 IsHard kind t past = Unit {0}
 
--- the calls have a linearization; or the object is a buffer, and its calls up to the end of `more`,
--- which begins with these events, are not of the class that is always decided
+-- the calls have a linearization; or the object is a cell or a database, and they aren't decided; or
+-- it is a buffer, and its calls up to the end of `more`, which begins with these events, are not of
+-- the class that is always decided
 abbrev pub IsOrdered : Kind → ℕ → List Event → List Event → Type 0
 IsOrdered (Buffer n) t past more = HasOrderOf (Buffer n) past ⊎ IsHard (Buffer n) t more
+IsOrdered Cell t past more = cells.IsClear Cell past
+IsOrdered (Database n) t past more = cells.IsClear (Database n) past
 IsOrdered kind t past more = HasOrderOf kind past
 
--- the events up to that at index i show the fault. It is the first faulty one; but of a buffer an
--- earlier one may be faulty, if the calls before it are not of the class that is always decided
-abbrev pub IsRefusedAt : Kind → List Event → ℕ → ℕ → Fault → Type 0
-IsRefusedAt (Buffer n) events t i f =
-    (i < length events) × Shows (Buffer n) (past_at (i + 1) events) f
-    × IsOrdered (Buffer n) t (past_at i events) (past_at i events)
-IsRefusedAt kind events t i f = IsFirstFault (λ past. Shows kind past f) kind events i
+-- the events up to that at index i show the fault, and each prefix before it is ordered so: it is
+-- the first faulty event of those that are decided
+pub record IsRefusedAt (kind : Kind) (events : List Event) (t i : ℕ) (f : Fault) : Type 0 where
+  pub within : i < length events
+  pub shows : Shows kind (past_at (i + 1) events) f
+  pub before : (j : ℕ) → j ≤ i → IsOrdered kind t (past_at j events) (past_at i events)
+
+-- the object isn't decided from the event at index i on, and each prefix before it has a
+-- linearization
+pub record IsOpenFrom (kind : Kind) (events : List Event) (t i : ℕ) (u : Cause) : Type 0 where
+  pub within : i < length events
+  pub shows : (j : ℕ) → i < j → ShowsUndecided kind (past_at j events) u
+  pub before : (j : ℕ) → j ≤ i → HasOrderOf kind (past_at j events)
+  pub hard : IsHard kind t (reverse events)
 
 -- what a decision on the calls of one object says
 abbrev pub IsDecision : Kind → List Event → ℕ → Decision → Type 0
 IsDecision kind events t (decision.Ordered cs) = IsOrderOf kind (reverse events) t cs
 IsDecision kind events t (decision.Refused i f) = IsRefusedAt kind events t i f
-IsDecision kind events t (decision.Open i u) =
-    IsFirstFault (λ past. ShowsUndecided kind past u) kind events i × IsHard kind t (reverse events)
+IsDecision kind events t (decision.Open i u) = IsOpenFrom kind events t i u
 
 -- the events of object k show the fault
 pub record HasFault (kinds : List Kind) (past : List Event) (k : ℕ) (f : Fault) : Type 0 where
@@ -118,7 +128,8 @@ IsCleanBefore kinds past n =
     → (cs : List Call) × IsAnsweredLinearization kinds (until m past) cs)
 
 -- each prefix of the events of object k before position n has a linearization; or the object is a
--- buffer, and its calls before position n are not of the class that is always decided
+-- cell or a database, and the prefix isn't decided; or it is a buffer, and its calls before position
+-- n are not of the class that is always decided
 abbrev pub IsOrderedBefore : List Kind → List Event → ℕ → ℕ → Type 0
 IsOrderedBefore kinds past k n = (kind : Kind) (m : ℕ) → slice_get kinds k ≡ Some kind → m ≤ n
     → IsOrdered kind (clock past) (part k (until m past)) (part k (until n past))

@@ -3,7 +3,7 @@ use Rattle.calls_core.specs.declared.history.Event.{Event}
 use Rattle.calls_core.specs.declared.history.Kind.TheVariants.{Buffer}
 use Rattle.calls_core.specs.Histories.{IsHistoryOf, clock}
 use Rattle.calls_core.specs.Beginnings.{past_at}
-use Rattle.calls_core.specs.Outcomes.{HasOrderOf, IsFirstFault}
+use Rattle.calls_core.specs.Outcomes.{HasOrderOf}
 use Rattle.calls_core.proofs.Beginnings.{history_at}
 use Rattle.calls_core.proofs.Settling.{has_order_from}
 use Rattle.calls_distinct.proofs.Earlier.{order_of_none as nothing_ordered}
@@ -11,8 +11,8 @@ use Rattle.calls_cells.proofs.Trying.{before_end}
 use Rattle.calls_buffers.specs.declared.deciding.Outcome.TheVariants.{Ordered}
 use Rattle.calls_buffers.specs.Outcomes.{IsOutcome}
 use Rattle.calls_verdict.specs.declared.verdict.Cause.TheVariants.{Unfound}
-use Rattle.calls_verdict.specs.Faults.{ShowsUndecided}
-use Rattle.calls_verdict.proofs.Halving.{unfound_at}
+use Rattle.calls_verdict.specs.Verdicts.{IsOpenFrom}
+use Rattle.calls_verdict.proofs.Halving.{unfound_from}
 use Rattle.calls_verdict.proofs.buffers.leave_open.Goals.{in-Ordered, in-NotDecided}
 use Rattle.calls_verdict.proofs.buffers.leave_open.Goals as goal
 
@@ -82,11 +82,8 @@ pub returns : goal.returns
 returns c =
     let x = c.at.result.now in
     let lt = c.loop-high.invariant.within in
-    let apart = c.loop-high.invariant.apart in (
-      subst (λ (e : Event). IsFirstFault
-          (λ past. ShowsUndecided (Buffer c.args.room) past (Unfound e.at)) (Buffer c.args.room)
-          c.args.events.now c.loop-high.low) (sym (c.at.ensures x))
-          (unfound_at c.args.room c.args.events.now c.loop-high.low x c.requires.history
-          (omega arith) c.loop-high.invariant.good),
-      c.requires.hard,
-    )
+    let apart = c.loop-high.invariant.apart in
+    subst (λ (e : Event). IsOpenFrom (Buffer c.args.room) c.args.events.now c.args.end
+    c.loop-high.low (Unfound e.at)) (sym (c.at.ensures x))
+    (unfound_from c.args.room c.args.end c.args.events.now c.loop-high.low x c.requires.history
+    (omega arith) c.loop-high.invariant.good c.requires.hard)

@@ -7,7 +7,7 @@ use Rattle.calls_distinct.proofs.Earlier.{order_of_none as nothing_ordered}
 use Rattle.calls_cells.proofs.Trying.{before_end}
 use Rattle.calls_buffers.specs.declared.deciding.Outcome.TheVariants.{Ordered, Refused, NotDecided}
 use Rattle.calls_buffers.specs.Faults.{Shows}
-use Rattle.calls_verdict.proofs.Halving.{narrowed}
+use Rattle.calls_verdict.proofs.Halving.{narrowed, ordered_before}
 use Rattle.calls_verdict.proofs.buffers.refuse.Goals.{in-Refused, in-Ordered, in-NotDecided}
 use Rattle.calls_verdict.proofs.buffers.refuse.Goals as goal
 
@@ -78,9 +78,11 @@ loop-high-preserved c =
 pub returns : goal.returns
 returns c =
     let one : c.loop-high.low + 1 ≡ c.loop-high.high =
-    omega (arith, c.loop-high.invariant.apart, c.loop-high-test.false) in (
-      omega (arith, c.loop-high.invariant.within),
-      subst (λ n. Shows c.args.room (past_at n c.args.events.now) c.loop-high.fault)
-          (sym one) c.loop-high.invariant.shown,
-      c.loop-high.invariant.ordered,
-    )
+    omega (arith, c.loop-high.invariant.apart, c.loop-high-test.false) in
+    record {
+      within = omega (arith, c.loop-high.invariant.within);
+      shows = subst (λ n. Shows c.args.room (past_at n c.args.events.now) c.loop-high.fault)
+          (sym one) c.loop-high.invariant.shown;
+      before = ordered_before c.args.room c.args.end c.args.events.now c.loop-high.low
+          c.requires.history c.loop-high.invariant.ordered;
+    }
