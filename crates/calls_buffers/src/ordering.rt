@@ -138,7 +138,7 @@ fn answer_at(answers: &[Option<Reply>], i: usize) -> Option<Reply>
 }
 
 /// Lists the pending calls that take effect, with their replies as if they came at `end`.
-fn answered(
+pub(crate) fn answered(
     alloc: Global,
     pending: &[PendingCall],
     answers: &[Option<Reply>],
@@ -156,7 +156,7 @@ fn answered(
 }
 
 /// Returns calls with their points.
-fn placed(alloc: Global, calls: &[Call]) -> Result<PlacedCalls, AllocError>
+pub(crate) fn placed(alloc: Global, calls: &[Call]) -> Result<PlacedCalls, AllocError>
     ensures { IfOk result (λ order. order ≡ calls.now) }
 {
     let mut order = PlacedCalls::new(alloc);
