@@ -6,7 +6,7 @@ ghost use Rattle.calls_buffers.specs.kept.Orders.{IsFound};
 
 use crate::checking::verify;
 use crate::items::produced_item;
-use crate::numbered::{NONE, Numbered, set};
+use crate::numbered::{NONE, Numbered, puts, set};
 use crate::ordering::{answered, placed};
 use crate::recorded::Recorded;
 use calls_core::{Call, Op, PendingCall, PlacedCalls, Reply};
@@ -64,12 +64,14 @@ fn askers(
 impl<'c> Sweep<'c> {
     /// Begins with an empty buffer.
     fn new(alloc: Global, room: usize, calls: &'c Recorded) -> Result<Sweep<'c>, AllocError> {
-        let numbered = Numbered::new(alloc, calls)?;
+        let mut puts = puts(alloc, calls)?;
+        let numbered = Numbered::new(alloc, calls, &puts)?;
+        numbered.by_start(&mut puts)?;
         Ok(Sweep {
             room,
             places: Vec::from_elem(alloc, NONE, numbered.count())?,
             count: 0,
-            starts: numbered.starts(alloc)?,
+            starts: puts,
             started: 0,
             open: Vec::new(alloc),
             held: VecDeque::new(alloc),

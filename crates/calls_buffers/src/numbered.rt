@@ -36,14 +36,14 @@ fn completed_puts(alloc: Global, calls: &Recorded) -> Result<Vec<(usize, usize)>
 }
 
 /// Lists the produces that may have taken effect, by their items and responses.
-fn puts(alloc: Global, calls: &Recorded) -> Result<Vec<(usize, usize)>, AllocError> {
+pub(crate) fn puts(alloc: Global, calls: &Recorded) -> Result<Vec<(usize, usize)>, AllocError> {
     let mut list = completed_puts(alloc, calls)?;
     for (i, call) in calls.pending.iter().enumerate() {
         if let Some(item) = produced_item(call.op) {
             list.push((item, calls.done.len().saturating_add(i)))?;
         }
     }
-    list.sort()?;
+    list.sort_by_key(|put| put.0)?;
     Ok(list)
 }
 
@@ -55,7 +55,7 @@ fn takes(alloc: Global, calls: &Recorded) -> Result<Vec<(usize, usize)>, AllocEr
             list.push((item, number))?;
         }
     }
-    list.sort()?;
+    list.sort_by_key(|take| take.0)?;
     Ok(list)
 }
 
@@ -74,11 +74,16 @@ fn pair(mates: &mut [usize], puts: &[(usize, usize)], takes: &[(usize, usize)]) 
 }
 
 impl<'c> Numbered<'c> {
-    /// Numbers calls, and pairs those of each item in the order of their responses.
-    pub(crate) fn new(alloc: Global, calls: &'c Recorded) -> Result<Numbered<'c>, AllocError> {
+    /// Numbers calls, and pairs those of each item in the order of their responses. The produces are
+    /// listed by their items and responses.
+    pub(crate) fn new(
+        alloc: Global,
+        calls: &'c Recorded,
+        puts: &[(usize, usize)],
+    ) -> Result<Numbered<'c>, AllocError> {
         let count = calls.done.len().saturating_add(calls.pending.len());
         let mut mates = Vec::from_elem(alloc, NONE, count)?;
-        pair(&mut mates, &puts(alloc, calls)?, &takes(alloc, calls)?);
+        pair(&mut mates, puts, &takes(alloc, calls)?);
         Ok(Numbered { calls, mates })
     }
 
@@ -147,13 +152,12 @@ impl<'c> Numbered<'c> {
         set(&mut self.mates, take, put);
     }
 
-    /// Lists the produces by their invocations.
-    pub(crate) fn starts(&self, alloc: Global) -> Result<Vec<(usize, usize)>, AllocError> {
-        let mut list = puts(alloc, self.calls)?;
-        for start in list.iter_mut() {
-            start.0 = self.first(start.1);
+    /// Sorts produces by their invocations, and notes the positions of these in place of the items.
+    pub(crate) fn by_start(&self, puts: &mut Vec<(usize, usize)>) -> Result<(), AllocError> {
+        for put in puts.iter_mut() {
+            put.0 = self.first(put.1);
         }
-        list.sort()?;
-        Ok(list)
+        puts.sort_by_key(|put| put.0)?;
+        Ok(())
     }
 }
