@@ -326,12 +326,12 @@ fn settle(calls: &mut [Call], places: &mut [usize], i: usize) -> usize
 }
 
 /// Exchanges calls until each is at its place.
-fn arrange(calls: &mut [Call], places: &mut [usize])
+fn arrange(calls: &mut [Call], mut places: Vec<usize>)
     ensures { IsPermutation calls.old calls.new }
 {
     let mut i = 0;
     for _ in 0..calls.len().saturating_mul(2) {
-        i = settle(calls, places, i);
+        i = settle(calls, &mut places, i);
     }
 }
 
@@ -345,13 +345,7 @@ pub(crate) fn guessed_order(
     ensures { IfOk result (λ order. IfSome order (IsFound room calls.done.items
         calls.pending.items end)) }
 {
-    let Some(
-        Guess {
-            mut places,
-            answers,
-        },
-    ) = make_guess(alloc, room, &calls)?
-    else {
+    let Some(Guess { places, answers }) = make_guess(alloc, room, &calls)? else {
         return Ok(None);
     };
     let Recorded {
@@ -359,9 +353,9 @@ pub(crate) fn guessed_order(
         pending,
     } = calls;
     list.extend_from_slice(&answered(alloc, &pending, &answers, end)?)?;
-    arrange(&mut list, &mut places);
+    arrange(&mut list, places);
     if !verify(alloc, room, &list)? {
         return Ok(None);
     }
-    Ok(Some(placed(alloc, &list)?))
+    Ok(Some(placed(alloc, list)?))
 }
