@@ -22,6 +22,7 @@ use crate::Fault;
 use crate::accesses::Place;
 use crate::counting::all_pending_takes;
 use crate::finding::find_fault;
+use crate::guessing::guessed_order;
 use crate::planning::{find_order, order_of};
 use crate::ranking::{Ranking, ranked};
 use crate::recorded::{Recorded, record};
@@ -266,12 +267,8 @@ fn after(events: &Part<'_, '_>) -> usize {
     }
 }
 
-/// Decides whether the calls of a buffer with room for so many items have a linearization. It does
-/// so, if there is room, if no item is put in twice and no pending consume may have taken one; or no
-/// two produces overlap; or no two consumes overlap, and no more was put in than was returned or the
-/// pending consume, if there is one, comes last. `end` is a position after all events, and not the
-/// last of all: there only faults and orders that are found count.
-pub fn decide(
+/// Decides calls whose order was not guessed.
+fn decide_recorded(
     alloc: Global,
     room: usize,
     events: &Part<'_, '_>,
@@ -290,4 +287,25 @@ pub fn decide(
         return decide_distinct(alloc, room, &calls, &windows.list, end, after(events));
     }
     decide_in_turn(alloc, room, &calls, &windows.list, end)
+}
+
+/// Decides whether the calls of a buffer with room for so many items have a linearization. It does
+/// so, if there is room, if no item is put in twice and no pending consume may have taken one; or no
+/// two produces overlap; or no two consumes overlap, and no more was put in than was returned or the
+/// pending consume, if there is one, comes last. `end` is a position after all events, and not the
+/// last of all: there only faults and orders that are found count.
+pub fn decide(
+    alloc: Global,
+    room: usize,
+    events: &Part<'_, '_>,
+    end: usize,
+) -> Result<Outcome, AllocError>
+    requires history { IsHistoryOf (Buffer room) (reverse events.now) }
+    requires end { clock (reverse events.now) ≤ end }
+    ensures { IfOk result (IsOutcome room events.now end) }
+{
+    match guessed_order(alloc, room, record(alloc, events)?, end)? {
+        Some(order) => Ok(Outcome::Ordered(order)),
+        None => decide_recorded(alloc, room, events, end),
+    }
 }

@@ -16,6 +16,9 @@ use calls_core::{Call, Op, PendingCall, PlacedCalls, Reply};
 use std::alloc::{AllocError, Global};
 use std::collections::HashMap;
 
+/// How many calls get a point before memory is given back.
+const BLOCK: usize = 65536;
+
 /// The place of a call in an order.
 #[derive(Clone, Copy)]
 pub(crate) struct Key {
@@ -138,7 +141,7 @@ fn answer_at(answers: &[Option<Reply>], i: usize) -> Option<Reply>
 }
 
 /// Lists the pending calls that take effect, with their replies as if they came at `end`.
-fn answered(
+pub(crate) fn answered(
     alloc: Global,
     pending: &[PendingCall],
     answers: &[Option<Reply>],
@@ -155,13 +158,17 @@ fn answered(
     Ok(list)
 }
 
-/// Returns calls with their points.
-fn placed(alloc: Global, calls: &[Call]) -> Result<PlacedCalls, AllocError>
-    ensures { IfOk result (λ order. order ≡ calls.now) }
+/// Returns calls with their points. The memory of those that have one is given back.
+pub(crate) fn placed(alloc: Global, mut calls: Vec<Call>) -> Result<PlacedCalls, AllocError>
+    ensures { IfOk result (λ order. order ≡ calls.items) }
 {
+    calls.reverse();
     let mut order = PlacedCalls::new(alloc);
-    for call in calls {
-        order.push(*call)?;
+    while let Some(call) = calls.pop() {
+        order.push(call)?;
+        if calls.len() % BLOCK == 0 {
+            calls.shrink_to_fit();
+        }
     }
     Ok(order)
 }
@@ -188,5 +195,5 @@ pub(crate) fn follow(
     if !verify(alloc, room, &order)? {
         return Ok(None);
     }
-    Ok(Some(placed(alloc, &order)?))
+    Ok(Some(placed(alloc, order)?))
 }
