@@ -75,14 +75,24 @@ counted_next p q same kind x (Respond r) (Some o) os cs e h = omega (
   ap one (same x.at r o),
 )
 
+-- an event makes no count of calls smaller
+counted_more : (p : Call → Bool) (q : PendingCall → Bool)
+    → ((t : ℕ) (r : Reply) (o : PendingCall) → p (completion t r o) ≡ q o)
+    → (kind : Kind) (x : Event) (action : Action) (o : Option PendingCall)
+    (os : List PendingCall) (cs : List Call) → pending_of x.worker os ≡ o → IsNextOf kind action o
+    → count_by p cs + count_by q os
+    ≤ count_by p (ended_call x action o ++ cs) + count_by q (pending_after x action os)
+counted_more p q same kind x action o os cs e h = omega (
+  arith,
+  counted_next p q same kind x action o os cs e h,
+)
+
 pub times_more : (kind : Kind) (v : ℕ) (x : Event) (past : List Event) → IsHistoryOf kind (x ∷ past)
     → times (completed_calls past) (pending_calls past) v
     ≤ times (completed_calls (x ∷ past)) (pending_calls (x ∷ past)) v
-times_more kind v x past h = omega (
-  arith,
-  counted_next (put_call v) (put_pending v) (λ t r p. refl) kind x x.action
-      (pending_of x.worker (pending_calls past)) (pending_calls past) (completed_calls past) refl h.1,
-)
+times_more kind v x past h = counted_more (put_call v) (put_pending v) (λ n r o. refl) kind x
+    x.action (pending_of x.worker (pending_calls past)) (pending_calls past) (completed_calls past)
+    refl h.1
 
 got_more : (v : ℕ) (x : Event) (past : List Event) → is_got (completed_calls past) v ≡ true
     → is_got (completed_calls (x ∷ past)) v ≡ true
