@@ -106,9 +106,6 @@ ended_at x (Invoke k op) o c e = cc
 ended_at x (Respond r) None c e = cc
 ended_at x (Respond r) (Some o) c e = sym (ap position_of e)
 
-
-
-
 module _ (kind : Kind) (x : Event) (past : List Event) (h : IsHistoryOf kind (x ∷ past))
     (put : ℕ → Bool) (are : (v : ℕ) → put v ≡ was_put (x ∷ past) v) where
   abbrev o : Option PendingCall

@@ -11,10 +11,7 @@ use calls_core::{Action, Call, Event, Part, PendingCall, Reply, take_pending};
 use std::alloc::{AllocError, Global};
 
 /// Follows one event, which makes a call pending, or completes the call that it returns.
-pub(crate) fn follow(
-    pending: &mut Vec<PendingCall>,
-    x: &Event,
-) -> Result<Option<Call>, AllocError>
+pub(crate) fn follow(pending: &mut Vec<PendingCall>, x: &Event) -> Result<Option<Call>, AllocError>
     ensures call { IfOk result (λ call. EndsWith x.now (pending_of x.now.worker pending.old.items)
         call) }
     ensures pending { OnOk result (pending.new.items ≡ pending_after x.now x.now.action

@@ -17,7 +17,7 @@ pub enum Fault {
 }
 
 /// A faulty event of a history, the first one of objects that are decided. An object that isn't may
-/// have a fault that was not looked for, and a buffer one that is found late.
+/// have a fault that was not looked for, and a buffer or a cell one that is found late.
 #[derive(Debug, Drop)]
 pub struct Refusal {
     /// The position of the event.

@@ -128,7 +128,7 @@ good_not_refused r g x refused =
 
 nothing_stored : (u : cells.Undecided) → undecided.ShowsUndecided [] u → ⊥
 nothing_stored u shows =
-    let never : false ≡ true = shows.repeated.got in
+    let never : false ≡ true = shows.outside.repeated.got in
     cc
 
 nothing_undecided : (kind : Kind) (u : Cause) → ShowsUndecided kind [] u → ⊥

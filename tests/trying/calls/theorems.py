@@ -144,10 +144,21 @@ def doubled(calls, start):
 
 
 def is_open(part):
-    """Returns whether the part is a cell that is not decided."""
+    """Returns whether the part is a cell that is not decided, unless a value was got that was never put."""
     if part.kind != "cell" or not puts_overlap(part.calls):
         return False
     return bool(doubled(part.calls, part.start))
+
+
+def is_nowhere(get, calls, start):
+    """Returns whether a get returned a value that was never put until then."""
+    return get.reply != start and not any(put.op[1] == get.reply and put.first < get.last for put in puts_of(calls))
+
+
+def first_nowhere(part):
+    """Returns the position of the first response of a get of a value that was never put until then, or None."""
+    gets = (get for get in gets_of(part.calls) if is_nowhere(get, part.calls, part.start))
+    return min((get.last for get in gets), default=None)
 
 
 def blocks_of(calls, start):
@@ -167,10 +178,8 @@ def blocks_of(calls, start):
 
 def distinct_fails(calls, start):
     """Returns whether a cell has a fault, if no value that a get returned was put more than once."""
-    for call in gets_of(calls):
-        puts = [put for put in puts_of(calls) if put.op[1] == call.reply]
-        if call.reply != start and not any(put.first < call.last for put in puts):
-            return True
+    if any(is_nowhere(get, calls, start) for get in gets_of(calls)):
+        return True
     blocks = list(blocks_of(calls, start))
     for at, (end, begin, is_first) in enumerate(blocks):
         for other_end, other_begin, other_is_first in blocks[at + 1 :]:

@@ -138,6 +138,14 @@ def is_open(kind, events, k):
     return overlap and any(times(v) > 1 for v in got)
 
 
+def is_got_from_nowhere(events, k):
+    """Returns whether a get of cell k returned a value that was never put until then."""
+    calls = [c for c in Calls(None, events).calls if c[1] == k]
+    puts = [(c[2][1], c[4]) for c in calls if c[2][0] == "put"]
+    gets = [(c[3], c[5]) for c in calls if c[2][0] == "get" and c[5] is not None]
+    return any(v != 0 and not any(w == v and first < last for w, first in puts) for v, last in gets)
+
+
 def monitor_stop(kinds, events):
     """Returns the position at which a monitor stops: that of the first call of an object that it doesn't watch, or of an
     event before it with which the history has no linearization; or None."""

@@ -5,7 +5,7 @@ import sys
 
 from trying.counting import Count
 from trying.running import run
-from trying.verdicts.brute import Calls, first_fault, first_state, is_open, monitor_stop, step
+from trying.verdicts.brute import Calls, first_fault, first_state, is_got_from_nowhere, is_open, monitor_stop, step
 from trying.verdicts.buffers import undecided_faults
 from trying.verdicts.certificates import certificate_faults
 
@@ -90,6 +90,8 @@ def compare(kinds, events, verdict, stopped):
         k = int(rest[0])
         if kinds[k][0] == "buffer":
             return undecided_faults(kinds[k], events, k, int(rest[2]))
+        if is_got_from_nowhere(events, k):
+            return "undecided, and a value was got that was never put"
         return None if is_open(kinds[k], events, k) else "undecided, and the cell is of a decided class"
     if name != "refused":
         return f"the verdict {name}"
