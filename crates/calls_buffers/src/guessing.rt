@@ -1,11 +1,9 @@
-//! Guesses an order of the calls of a buffer, which is then verified. Whatever is guessed, the
-//! answer is right; a good guess saves the search.
+//! Guesses an order of the calls of a buffer, and returns it if it is a linearization.
 ghost use Rattle.std.specs.Prelude.{IfOk, IfSome};
 ghost use Rattle.std.specs.List.Sorted.{IsPermutation};
 ghost use Rattle.calls_buffers.specs.kept.Orders.{IsFound};
 
 use crate::checking::verify;
-use crate::items::produced_item;
 use crate::numbered::{NONE, Numbered, puts, set};
 use crate::ordering::{answered, placed};
 use crate::recorded::Recorded;
@@ -22,8 +20,8 @@ struct Guess {
     answers: Vec<Option<Reply>>,
 }
 
-/// A buffer, while calls take effect as late as may be: at the response of a call that has no place
-/// yet it gets one, after the calls that have to come before it.
+/// A buffer whose calls take effect as late as they may: a call that has no place at its response
+/// gets one then, after the calls that have to come first.
 #[derive(Drop)]
 struct Sweep<'c> {
     /// How many items there is room for.
@@ -94,7 +92,7 @@ impl<'c> Sweep<'c> {
         self.count = self.count.saturating_add(1);
     }
 
-    /// Returns the consume of an item from when it was invoked.
+    /// Returns when the consume of an item was invoked.
     fn take_first(&self, put: usize) -> usize {
         self.calls.first(self.calls.mate(put))
     }
@@ -244,7 +242,7 @@ impl<'c> Sweep<'c> {
             }
             let put = self.calls.mate(take);
             let done = if self.held.is_empty() {
-                self.force_put(put, now)?
+                !self.has_place(put) && self.force_put(put, now)?
             } else {
                 self.take_out(now)
             };
