@@ -58,7 +58,17 @@ sentence causes.NoLastLf = codes "The last line has no LF at its end."
 sentence causes.NoEnd = codes "The text stops before the line end."
 sentence causes.TooLarge = codes "The text has more than 67108864 bytes."
 sentence causes.ScriptForm = codes "No line of this form may stand here in a script."
-sentence causes.CallsForm = codes "No line of this form may stand here in a history of calls."
+sentence causes.ReplyWords = codes "No reply follows the word returns."
+sentence causes.NoCallWord = codes "The second word is neither calls nor returns."
+sentence causes.NoOperation = codes "The third word is no operation."
+sentence causes.CallWords = codes "The words after the operation do not suit it."
+sentence causes.FromForm = codes "No declared eventcount and number follow the word from."
+sentence causes.AfterFrom = codes "Declarations come before the lines from."
+sentence causes.FromRange = codes "The first count is out of its range."
+sentence causes.UnknownWorker = codes "The first word is no declared worker."
+sentence causes.NotDeclared = codes "Nothing of this name is declared."
+sentence causes.OtherSort = codes "The operation takes no such object."
+sentence causes.NoBoth = codes "No line both says who may call pboth."
 sentence causes.UnknownWord =
     codes "A word names nothing that is declared, or something of another sort."
 sentence causes.OutOfRange = codes "A number is out of its range."
@@ -112,7 +122,7 @@ remedy causes.TooMany =
     codes "A text has at most 16 workers, 32 eventcounts, 32 sequencers and 256 cells, those of "
     ++ codes "groups among them."
 remedy causes.TwoRoles = codes "The two lists of a buffer or a database share no worker."
-remedy causes.EntryBeforeRun = codes "Write the line run between the declarations and the entries."
+remedy causes.EntryBeforeRun = codes "Write the line run after the last declaration."
 remedy causes.NoDeclaration =
     codes "Write eventcount, sequencer, cells, buffer, database, semaphore or both; the line "
     ++ codes "run ends the declarations."
@@ -153,8 +163,28 @@ remedy causes.TooLarge = codes "Record a shorter run."
 remedy causes.ScriptForm =
     codes "Declarations come first, then blocks, each from worker a to end, then the lines "
     ++ codes "schedule a b."
-remedy causes.CallsForm =
-    codes "After run come lines as: a calls read E, and: a returns 1; the line end is the last one."
+remedy causes.ReplyWords =
+    codes "A reply is done, timeout, or a number without leading zeros; to a snapshot a number "
+    ++ codes "for each cell."
+remedy causes.NoCallWord =
+    codes "An event is as: a calls read E, or: a returns 1; the line end is the last one."
+remedy causes.NoOperation =
+    codes "The operations are advance, read, await, ticket, put, get, p, v, pboth, write, "
+    ++ codes "snapshot, produce and consume."
+remedy causes.CallWords =
+    codes "An object comes first; then await, put and produce have a number in digits, write "
+    ++ codes "numbers, pboth a second semaphore."
+remedy causes.FromForm = codes "Write the eventcount and its first count, as in: from E 3"
+remedy causes.AfterFrom = codes "Move the line before the first line from."
+remedy causes.FromRange =
+    codes "It is at least 1 and at most the limit in the second line of the history."
+remedy causes.UnknownWorker = codes "Name it in the line of the workers, or mend the word."
+remedy causes.NotDeclared = codes "Declare it before the line run, or mend the word."
+remedy causes.OtherSort =
+    codes "advance, read and await take an eventcount, ticket a sequencer, put and get a cell "
+    ++ codes "as X[0], produce and consume a buffer, write and snapshot a database, p, v and pboth "
+    ++ codes "semaphores."
+remedy causes.NoBoth = codes "Write it after the semaphores, as in: both use a b"
 remedy causes.UnknownWord = codes "Declare it or mend the word; a cell is written as: X[0]"
 remedy causes.OutOfRange =
     codes "A value is at most 999999999999999999; a snapshot has 1 to 1000 tries, a repeat 1 to "

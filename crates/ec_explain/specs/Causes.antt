@@ -188,13 +188,12 @@ abbrev pub name_place : Site → List ℕ → ℕ
 name_place (sites.Workers fault) line = bad_name_place line
 name_place _ line = 1
 
--- the index of the first word after a declaration's name that may not follow it
-abbrev pub first_unlisted : NameTable → List ℕ → ℕ
-first_unlisted names line =
-    2 + words_before (is_listed names) (behind_first (behind_first (words_of line)))
+-- the index of the first word after a declaration's name that fails a test
+abbrev pub first_failing : (List ℕ → Bool) → List ℕ → ℕ
+first_failing p line = 2 + words_before p (behind_first (behind_first (words_of line)))
 
 abbrev pub unknown_place : Site → List ℕ → ℕ
-unknown_place (sites.Declaration h fault) line = first_unlisted h.now.words line
+unknown_place (sites.Declaration h fault) line = first_failing (is_listed h.now.words) line
 unknown_place _ line = 2
 
 -- the index of the word that shows the cause

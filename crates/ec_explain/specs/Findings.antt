@@ -1,6 +1,6 @@
 -- What is found wrong with a text, and how it is written.
 use Rattle.std.specs.Prelude.{ℕ, ◌+◌, ◌-◌, ◌&&◌, nat_le, nat_lt, List, [], ◌∷◌, ◌++◌, take, drop}
-use Rattle.std.specs.Prelude.{length, min, Option, Some, None, replicate, bytes_eq, ◌==◌, codes}
+use Rattle.std.specs.Prelude.{length, min, Option, Some, None, is_none, replicate, bytes_eq, ◌==◌, codes}
 use Rattle.std.specs.Prelude.{decimal, if◌then◌else◌}
 use Rattle.std.specs.Option.{option_map_or}
 use Rattle.std.specs.List.{flat_map}
@@ -41,6 +41,13 @@ abbrev pub finding_by_bytes : Cause → ℕ → ℕ → List ℕ → Finding
 finding_by_bytes cause n word line =
     option_map_or (λ c. finding_at c n (place_at sites.Unknown c line)) (line_cause line)
     (finding_at cause n (word_start word line))
+
+-- the same with the number of another line that shows why, unless the bytes of the line show another
+-- cause
+abbrev pub finding_with_line : Cause → ℕ → Option ℕ → ℕ → List ℕ → Finding
+finding_with_line cause word other n line =
+    record (finding_by_bytes cause n word line)
+    { see = if is_none (line_cause line) then other else None }
 
 -- why an act is refused; in a trace what an entry names is declared, and each value small enough
 abbrev pub refusal_cause : Refusal → Cause

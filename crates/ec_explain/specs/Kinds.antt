@@ -1,18 +1,19 @@
 -- What is wrong with a script and with a history of calls, by the kind of the fault that their
 -- readers report. Where the bytes of a line show no other cause, this one is shown at a word.
 use Rattle.std.specs.Prelude.{ℕ, ◌+◌, ◌==◌, List, length, bytes_eq, codes}
-use Rattle.std.specs.Prelude.{None, is_none, if◌then◌else◌}
+use Rattle.std.specs.Prelude.{Some, if◌then◌else◌}
 use Rattle.ec_text.specs.Words.{words_of}
 use Rattle.ec_script.specs.declared.fault.Kind as scripts
 use Rattle.ec_script.specs.declared.fault.Kind.TheVariants as script
 use Rattle.calls_text.specs.declared.fault.FaultKind as histories
 use Rattle.calls_text.specs.declared.fault.FaultKind.TheVariants as calls
-use Rattle.ec_explain.specs.declared.cause.Cause.{Cause}
 use Rattle.ec_explain.specs.declared.cause.Cause.TheVariants as causes
 use Rattle.ec_explain.specs.declared.finding.Finding.{Finding}
-use Rattle.ec_explain.specs.Findings.{finding_by_bytes, find_early_end}
-use Rattle.ec_explain.specs.Causes.{first_cause, line_cause, name_cause, new_name_place}
-use Rattle.ec_explain.specs.RelatedLine.{call_line}
+use Rattle.ec_explain.specs.Findings.{finding_by_bytes, finding_with_line, find_early_end}
+use Rattle.ec_explain.specs.Causes.{first_cause, name_cause, new_name_place}
+use Rattle.ec_explain.specs.HistoryLines.{form_finding, unknown_finding}
+use Rattle.ec_explain.specs.HistoryLines.{range_cause, range_place, object_place, right_line_of}
+use Rattle.ec_explain.specs.RelatedLine.{call_line, line_with, object_line}
 use Rattle.ec_explain.specs.Places.{word_at}
 use Rattle.ec_explain.specs.TextLines.{line_at}
 
@@ -53,39 +54,30 @@ script_finding script.Unfinished n text = find_early_end causes.StopsEarly text
 
 -- A HISTORY OF CALLS
 
--- the index of the word that names the object, in a call or in a line of the header
-abbrev pub calls_object_place : List ℕ → ℕ
-calls_object_place line = if bytes_eq (word_at 1 line) (codes "calls") then 3 else 1
-
--- the index of the word that is the number
-abbrev pub calls_number_place : List ℕ → ℕ
-calls_number_place line =
-    if bytes_eq (word_at 1 line) (codes "calls") then 4 else number_place line
-
--- a line with a cause that the line of its worker's last call shows too, unless the bytes of the
--- line show another
-abbrev pub finding_with_call : Cause → ℕ → ℕ → List ℕ → Finding
-finding_with_call cause place n text =
-    record (finding_by_bytes cause n place (line_at n text))
-    { see = if is_none (line_cause (line_at n text)) then call_line n text else None }
+abbrev pub calls_line_finding : histories.FaultKind → ℕ → List ℕ → List ℕ → Finding
+calls_line_finding calls.BadHeader n text line = finding_by_bytes (first_cause line) n 0 line
+calls_line_finding calls.BadLine n text line = form_finding n text line
+calls_line_finding calls.BadName n text line = bad_name_at n line
+calls_line_finding calls.NameTaken n text line = finding_by_bytes causes.NameTaken n 1 line
+calls_line_finding calls.UnknownName n text line = unknown_finding n text line
+calls_line_finding calls.BadNumber n text line =
+    finding_by_bytes (range_cause n text line) n (range_place line) line
+calls_line_finding calls.TooMany n text line = finding_by_bytes causes.Full n 0 line
+calls_line_finding calls.Hidden n text line =
+    finding_with_line causes.Hidden (object_place line)
+    (object_line (word_at (object_place line) line) n text) n line
+calls_line_finding calls.TwoRoles n text line = roles_at 2 n line
+calls_line_finding calls.NoRight n text line =
+    finding_with_line causes.NoRole 0 (right_line_of n text line) n line
+calls_line_finding calls.BadOrder n text line = finding_by_bytes causes.BadOrder n 1 line
+calls_line_finding calls.Unfinished n text line = find_early_end causes.StopsEarly text
+calls_line_finding calls.Busy n text line =
+    finding_with_line causes.CallPending 0 (call_line n text) n line
+calls_line_finding calls.Idle n text line = finding_by_bytes causes.NoPendingCall n 0 line
+calls_line_finding calls.Unsuited n text line =
+    finding_with_line causes.Unsuited 2 (call_line n text) n line
+calls_line_finding calls.AtLimit n text line =
+    finding_with_line causes.CallLimit 2 (Some (line_with (codes "limit") n text)) n line
 
 abbrev pub calls_finding : histories.FaultKind → ℕ → List ℕ → Finding
-calls_finding calls.BadHeader n text =
-    finding_by_bytes (first_cause (line_at n text)) n 0 (line_at n text)
-calls_finding calls.BadLine n text = finding_by_bytes causes.CallsForm n 0 (line_at n text)
-calls_finding calls.BadName n text = bad_name_at n (line_at n text)
-calls_finding calls.NameTaken n text = finding_by_bytes causes.NameTaken n 1 (line_at n text)
-calls_finding calls.UnknownName n text = finding_by_bytes causes.UnknownWord n 0 (line_at n text)
-calls_finding calls.BadNumber n text =
-    finding_by_bytes causes.OutOfRange n (calls_number_place (line_at n text)) (line_at n text)
-calls_finding calls.TooMany n text = finding_by_bytes causes.Full n 0 (line_at n text)
-calls_finding calls.Hidden n text =
-    finding_by_bytes causes.Hidden n (calls_object_place (line_at n text)) (line_at n text)
-calls_finding calls.TwoRoles n text = roles_at 2 n (line_at n text)
-calls_finding calls.NoRight n text = finding_by_bytes causes.NoRole n 0 (line_at n text)
-calls_finding calls.BadOrder n text = finding_by_bytes causes.BadOrder n 1 (line_at n text)
-calls_finding calls.Unfinished n text = find_early_end causes.StopsEarly text
-calls_finding calls.Busy n text = finding_with_call causes.CallPending 0 n text
-calls_finding calls.Idle n text = finding_by_bytes causes.NoPendingCall n 0 (line_at n text)
-calls_finding calls.Unsuited n text = finding_with_call causes.Unsuited 2 n text
-calls_finding calls.AtLimit n text = finding_by_bytes causes.CallLimit n 2 (line_at n text)
+calls_finding kind n text = calls_line_finding kind n text (line_at n text)

@@ -4,6 +4,7 @@ pub mod RelatedLine
 pub mod Causes
 pub mod Advice
 pub mod Findings
+pub mod HistoryLines
 pub mod Kinds
 pub mod Rounds
 pub mod Rights

@@ -42,6 +42,14 @@ abbrev pub is_listed : NameTable → List ℕ → Bool
 is_listed names w = (is_some (worker_in names w) || is_some (number_in_word w))
     || is_among list_openers w
 
+-- whether a line, which names the workers, names this one
+abbrev pub names_worker : List ℕ → List ℕ → Bool
+names_worker line w = is_among (behind_first (words_of line)) w
+
+-- the same if the workers are those of a line
+abbrev pub is_listed_by : List ℕ → List ℕ → Bool
+is_listed_by line w = (names_worker line w || is_some (number_in_word w)) || is_among list_openers w
+
 -- whether a word has a byte
 abbrev pub is_full : List ℕ → Bool
 is_full w = not (length w == 0)
@@ -49,6 +57,7 @@ is_full w = not (length w == 0)
 abbrev pub word_test : WordTest → List ℕ → Bool
 word_test tests.Name = is_name
 word_test (tests.Listed h) = is_listed h.now.words
+word_test (tests.ListedBy line) = is_listed_by line.now
 word_test tests.Full = is_full
 
 -- how many words come before the first that fails a test

@@ -1,11 +1,12 @@
 -- Which other line of a text shows why a line is rejected: where a call began, and where an object
 -- is declared.
 use Rattle.std.specs.Prelude.{ℕ, ◌+◌, ◌==◌, ◌&&◌, ◌||◌, not, Bool, List, [], ◌∷◌, take, min, Option}
-use Rattle.std.specs.Prelude.{Some, None, bytes_eq, codes, if◌then◌else◌}
+use Rattle.std.specs.Prelude.{Some, None, nat_lt, unwrap_or, bytes_eq, codes, if◌then◌else◌}
 use Rattle.std.specs.Option.{option_or}
 use Rattle.std.specs.List.{slice_split}
 use Rattle.ec_explain.specs.declared.related_line.Target.{Target}
 use Rattle.ec_explain.specs.declared.related_line.Target.TheVariants.{Call, Declaration, Hand}
+use Rattle.ec_explain.specs.declared.related_line.Target.TheVariants.{First, Object}
 use Rattle.ec_explain.specs.Places.{word_at}
 use Rattle.ec_explain.specs.TextLines.{text_before_line, line_at, position_or_end}
 
@@ -24,10 +25,21 @@ hands_by worker name line =
     bytes_eq (word_at 0 line) worker
     && (bytes_eq (word_at 1 line) (codes "hand") && bytes_eq (word_at 2 line) name)
 
+-- whether the line begins with this word
+abbrev pub begins_with_word : List ℕ → List ℕ → Bool
+begins_with_word w line = bytes_eq (word_at 0 line) w
+
+-- whether the line of a history declares what is called so; a line `from` names it again
+abbrev pub declares_object : List ℕ → List ℕ → Bool
+declares_object name line = bytes_eq (word_at 1 line) name
+    && not (bytes_eq (word_at 0 line) (codes "from"))
+
 abbrev pub fits : Target → List ℕ → Bool
 fits (Call worker) line = begins_by worker.now line
 fits (Declaration name) line = declares name.now line
 fits (Hand worker name) line = hands_by worker.now name.now line
+fits (First word) line = begins_with_word word.now line
+fits (Object name) line = declares_object name.now line
 
 -- the lines of a text, and what follows the last LF
 abbrev pub lines_of : List ℕ → List (List ℕ)
@@ -68,3 +80,20 @@ hand_line n text =
 -- declares the object, and says who has it
 abbrev pub right_line : ℕ → List ℕ → Option ℕ
 right_line n text = option_or (hand_line n text) (declaration_line n text)
+
+-- HISTORIES OF CALLS
+
+-- the last line before line n that begins with this word; 0 if there is none
+abbrev pub line_with : List ℕ → ℕ → List ℕ → ℕ
+line_with w n text =
+    unwrap_or (last_in (begins_with_word w) 0 None (lines_of (text_before_line n text))) 0
+
+-- the number of a line, if it is greater than this one
+abbrev pub only_after : ℕ → Option ℕ → Option ℕ
+only_after first None = None
+only_after first (Some n) = if nat_lt first n then Some n else None
+
+-- the line by which the history of line n declares the object of a word
+abbrev pub object_line : List ℕ → ℕ → List ℕ → Option ℕ
+object_line w n text = only_after (line_with (codes "evc-calls") n text)
+    (last_in (declares_object (base_of w)) 0 None (lines_of (text_before_line n text)))

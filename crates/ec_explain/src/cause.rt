@@ -105,8 +105,28 @@ pub enum Cause {
     TooLarge,
     /// No line of a script has this form.
     ScriptForm,
-    /// No line of a history of calls has this form.
-    CallsForm,
+    /// What follows `returns` in a history is no reply.
+    ReplyWords,
+    /// The second word of an event is neither `calls` nor `returns`.
+    NoCallWord,
+    /// The word after `calls` is no operation.
+    NoOperation,
+    /// The words after an operation do not suit it.
+    CallWords,
+    /// No declared eventcount and number follow the word `from`.
+    FromForm,
+    /// A declaration comes after a line `from`.
+    AfterFrom,
+    /// The first count of an eventcount is out of its range.
+    FromRange,
+    /// An event begins with no declared worker.
+    UnknownWorker,
+    /// A call names an object that is not declared.
+    NotDeclared,
+    /// The operation of a call is not one of its object.
+    OtherSort,
+    /// A history has a `pboth` and no line `both`.
+    NoBoth,
     /// A word names nothing that is declared, or something of another kind.
     UnknownWord,
     /// A number is out of its range.
@@ -203,7 +223,17 @@ impl Cause {
             Cause::NoEnd => b"The text stops before the line end.",
             Cause::TooLarge => b"The text has more than 67108864 bytes.",
             Cause::ScriptForm => b"No line of this form may stand here in a script.",
-            Cause::CallsForm => b"No line of this form may stand here in a history of calls.",
+            Cause::ReplyWords => b"No reply follows the word returns.",
+            Cause::NoCallWord => b"The second word is neither calls nor returns.",
+            Cause::NoOperation => b"The third word is no operation.",
+            Cause::CallWords => b"The words after the operation do not suit it.",
+            Cause::FromForm => b"No declared eventcount and number follow the word from.",
+            Cause::AfterFrom => b"Declarations come before the lines from.",
+            Cause::FromRange => b"The first count is out of its range.",
+            Cause::UnknownWorker => b"The first word is no declared worker.",
+            Cause::NotDeclared => b"Nothing of this name is declared.",
+            Cause::OtherSort => b"The operation takes no such object.",
+            Cause::NoBoth => b"No line both says who may call pboth.",
             Cause::UnknownWord =>
                 b"A word names nothing that is declared, or something of another sort.",
             Cause::OutOfRange => b"A number is out of its range.",
@@ -266,8 +296,7 @@ impl Cause {
                 b"A text has at most 16 workers, 32 eventcounts, 32 sequencers and 256 cells, \
                   those of groups among them.",
             Cause::TwoRoles => b"The two lists of a buffer or a database share no worker.",
-            Cause::EntryBeforeRun =>
-                b"Write the line run between the declarations and the entries.",
+            Cause::EntryBeforeRun => b"Write the line run after the last declaration.",
             Cause::NoDeclaration =>
                 b"Write eventcount, sequencer, cells, buffer, database, semaphore or both; the \
                   line run ends the declarations.",
@@ -311,9 +340,29 @@ impl Cause {
             Cause::ScriptForm =>
                 b"Declarations come first, then blocks, each from worker a to end, then the \
                   lines schedule a b.",
-            Cause::CallsForm =>
-                b"After run come lines as: a calls read E, and: a returns 1; the line end is \
-                  the last one.",
+            Cause::ReplyWords =>
+                b"A reply is done, timeout, or a number without leading zeros; to a snapshot a \
+                  number for each cell.",
+            Cause::NoCallWord =>
+                b"An event is as: a calls read E, or: a returns 1; the line end is the last \
+                  one.",
+            Cause::NoOperation =>
+                b"The operations are advance, read, await, ticket, put, get, p, v, pboth, \
+                  write, snapshot, produce and consume.",
+            Cause::CallWords =>
+                b"An object comes first; then await, put and produce have a number in digits, \
+                  write numbers, pboth a second semaphore.",
+            Cause::FromForm => b"Write the eventcount and its first count, as in: from E 3",
+            Cause::AfterFrom => b"Move the line before the first line from.",
+            Cause::FromRange =>
+                b"It is at least 1 and at most the limit in the second line of the history.",
+            Cause::UnknownWorker => b"Name it in the line of the workers, or mend the word.",
+            Cause::NotDeclared => b"Declare it before the line run, or mend the word.",
+            Cause::OtherSort =>
+                b"advance, read and await take an eventcount, ticket a sequencer, put and get \
+                  a cell as X[0], produce and consume a buffer, write and snapshot a database, \
+                  p, v and pboth semaphores.",
+            Cause::NoBoth => b"Write it after the semaphores, as in: both use a b",
             Cause::UnknownWord => b"Declare it or mend the word; a cell is written as: X[0]",
             Cause::OutOfRange =>
                 b"A value is at most 999999999999999999; a snapshot has 1 to 1000 tries, a \

@@ -1,6 +1,7 @@
 //! What is found wrong with a text.
 ghost use Rattle.std.specs.Prelude.{◌≡◌};
 ghost use Rattle.ec_explain.specs.Findings.{finding_of_line, finding_by_bytes, finding_at};
+ghost use Rattle.ec_explain.specs.Findings.{finding_with_line};
 ghost use Rattle.ec_explain.specs.Findings.{refusal_cause, reason_line, finding_of_refusal};
 ghost use Rattle.ec_explain.specs.Findings.{begun_line, finding_of_wrong_reply, find_early_end};
 ghost use Rattle.ec_explain.specs.Findings.{find_missing_end, finding_of_text};
@@ -53,6 +54,27 @@ pub(crate) fn finding_by_bytes(cause: Cause, number: u64, word: usize, line: &[u
     match line_cause(line) {
         Some(cause) => finding_at(cause, number, place_at(&Site::Unknown, cause, line)),
         None => finding_at(cause, number, word_start(word, line)),
+    }
+}
+
+/// Returns such a finding with the number of another line that shows why, unless the bytes of the
+/// line show another cause.
+pub(crate) fn finding_with_line(
+    cause: Cause,
+    word: usize,
+    other: Option<usize>,
+    number: u64,
+    line: &[u8],
+) -> Finding
+    ensures { result ≡ finding_with_line cause word other number line.now }
+{
+    let finding = finding_by_bytes(cause, number, word, line);
+    match line_cause(line) {
+        None => Finding {
+            see: other,
+            ..finding
+        },
+        Some(_) => finding,
     }
 }
 

@@ -125,7 +125,7 @@ pub(crate) fn workers_cause(fault: HeadFault, line: &[u8]) -> Cause
 }
 
 /// Returns whether a word begins a declaration.
-fn is_sort(word: &[u8]) -> bool
+pub(crate) fn is_sort(word: &[u8]) -> bool
     ensures { result ≡ is_some (sort_of word.now) }
 {
     is_same(word, b"eventcount".as_slice())

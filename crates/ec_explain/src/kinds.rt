@@ -1,15 +1,17 @@
 //! What is wrong with a script and with histories of calls, by the kind of their first fault.
 ghost use Rattle.std.specs.Prelude.{◌≡◌, ◌≤◌};
-ghost use Rattle.ec_explain.specs.Kinds.{bad_name_at, calls_finding, calls_number_place};
-ghost use Rattle.ec_explain.specs.Kinds.{calls_object_place, finding_with_call, number_place};
-ghost use Rattle.ec_explain.specs.Kinds.{roles_at, script_finding};
+ghost use Rattle.calls_text.specs.declared.fault.FaultKind.TheVariants as faults;
+ghost use Rattle.ec_explain.specs.Kinds.{bad_name_at, calls_finding, calls_line_finding};
+ghost use Rattle.ec_explain.specs.Kinds.{number_place, roles_at, script_finding};
 
 use crate::cause::Cause;
-use crate::finding::{Finding, find_early_end, finding_by_bytes};
+use crate::finding::{Finding, find_early_end, finding_by_bytes, finding_with_line};
 use crate::head::{first_cause, name_cause, new_name_place};
-use crate::line::line_cause;
+use crate::history_lines::{
+    form_finding, object_place, range_cause, range_place, right_line_of, unknown_finding,
+};
 use crate::lines::line_at;
-use crate::related_line::call_line;
+use crate::related_line::{call_line, line_with, object_line};
 use crate::words::{is_same, word_at};
 use calls_text::FaultKind;
 use ec_heading::count_words;
@@ -66,41 +68,57 @@ pub fn script_finding(kind: Kind, number: u64, text: &[u8]) -> Finding
     }
 }
 
-/// Returns the index of the word that names the object, in a call or in a line of the header.
-fn calls_object_place(line: &[u8]) -> usize
-    ensures { result ≡ calls_object_place line.now }
+/// Returns what is wrong with a line of a history that names an object of a group.
+fn hidden_finding(number: u64, text: &[u8], line: &[u8]) -> Finding
+    ensures { result ≡ calls_line_finding faults.Hidden number text.now line.now }
 {
-    if is_same(word_at(1, line), b"calls".as_slice()) {
-        3
-    } else {
-        1
-    }
+    let place = object_place(line);
+    let declaration = object_line(word_at(place, line), number, text);
+    finding_with_line(Cause::Hidden, place, declaration, number, line)
 }
 
-/// Returns the index of the word that is the number, in a call or in a line of the header.
-fn calls_number_place(line: &[u8]) -> usize
-    ensures { result ≡ calls_number_place line.now }
+/// Returns what is wrong with a line of a history that passes the limit, and which line gives that.
+fn limit_finding(number: u64, text: &[u8], line: &[u8]) -> Finding
+    ensures { result ≡ calls_line_finding faults.AtLimit number text.now line.now }
 {
-    if is_same(word_at(1, line), b"calls".as_slice()) {
-        4
-    } else {
-        number_place(line)
-    }
+    let limit = line_with(b"limit".as_slice(), number, text);
+    finding_with_line(Cause::CallLimit, 2, Some(limit), number, line)
 }
 
-/// Returns what is wrong with a line, and the line of its worker's last call, which shows why,
-/// unless the bytes of the line show what is wrong.
-fn finding_with_call(cause: Cause, place: usize, number: u64, text: &[u8]) -> Finding
-    ensures { result ≡ finding_with_call cause place number text.now }
+/// Returns what is wrong with a line of a history, which has this number and this lowest kind of
+/// error.
+fn calls_line_finding(kind: FaultKind, number: u64, text: &[u8], line: &[u8]) -> Finding
+    ensures { result ≡ calls_line_finding kind number text.now line.now }
 {
-    let line = line_at(number, text);
-    let finding = finding_by_bytes(cause, number, place, line);
-    match line_cause(line) {
-        None => Finding {
-            see: call_line(number, text),
-            ..finding
-        },
-        Some(_) => finding,
+    match kind {
+        FaultKind::BadHeader => finding_by_bytes(first_cause(line), number, 0, line),
+        FaultKind::BadLine => form_finding(number, text, line),
+        FaultKind::BadName => bad_name_at(number, line),
+        FaultKind::NameTaken => finding_by_bytes(Cause::NameTaken, number, 1, line),
+        FaultKind::UnknownName => unknown_finding(number, text, line),
+        FaultKind::BadNumber => {
+            let cause = range_cause(number, text, line);
+            finding_by_bytes(cause, number, range_place(line), line)
+        }
+        FaultKind::TooMany => finding_by_bytes(Cause::Full, number, 0, line),
+        FaultKind::Hidden => hidden_finding(number, text, line),
+        FaultKind::TwoRoles => roles_at(2, number, line),
+        FaultKind::NoRight => {
+            let declaration = right_line_of(number, text, line);
+            finding_with_line(Cause::NoRole, 0, declaration, number, line)
+        }
+        FaultKind::BadOrder => finding_by_bytes(Cause::BadOrder, number, 1, line),
+        FaultKind::Unfinished => find_early_end(Cause::StopsEarly, text),
+        FaultKind::Busy => {
+            let call = call_line(number, text);
+            finding_with_line(Cause::CallPending, 0, call, number, line)
+        }
+        FaultKind::Idle => finding_by_bytes(Cause::NoPendingCall, number, 0, line),
+        FaultKind::Unsuited => {
+            let call = call_line(number, text);
+            finding_with_line(Cause::Unsuited, 2, call, number, line)
+        }
+        FaultKind::AtLimit => limit_finding(number, text, line),
     }
 }
 
@@ -110,27 +128,5 @@ fn finding_with_call(cause: Cause, place: usize, number: u64, text: &[u8]) -> Fi
 pub fn calls_finding(kind: FaultKind, number: u64, text: &[u8]) -> Finding
     ensures { result ≡ calls_finding kind number text.now }
 {
-    let line = line_at(number, text);
-    match kind {
-        FaultKind::BadHeader => finding_by_bytes(first_cause(line), number, 0, line),
-        FaultKind::BadLine => finding_by_bytes(Cause::CallsForm, number, 0, line),
-        FaultKind::BadName => bad_name_at(number, line),
-        FaultKind::NameTaken => finding_by_bytes(Cause::NameTaken, number, 1, line),
-        FaultKind::UnknownName => finding_by_bytes(Cause::UnknownWord, number, 0, line),
-        FaultKind::BadNumber => {
-            finding_by_bytes(Cause::OutOfRange, number, calls_number_place(line), line)
-        }
-        FaultKind::TooMany => finding_by_bytes(Cause::Full, number, 0, line),
-        FaultKind::Hidden => {
-            finding_by_bytes(Cause::Hidden, number, calls_object_place(line), line)
-        }
-        FaultKind::TwoRoles => roles_at(2, number, line),
-        FaultKind::NoRight => finding_by_bytes(Cause::NoRole, number, 0, line),
-        FaultKind::BadOrder => finding_by_bytes(Cause::BadOrder, number, 1, line),
-        FaultKind::Unfinished => find_early_end(Cause::StopsEarly, text),
-        FaultKind::Busy => finding_with_call(Cause::CallPending, 0, number, text),
-        FaultKind::Idle => finding_by_bytes(Cause::NoPendingCall, number, 0, line),
-        FaultKind::Unsuited => finding_with_call(Cause::Unsuited, 2, number, text),
-        FaultKind::AtLimit => finding_by_bytes(Cause::CallLimit, number, 2, line),
-    }
+    calls_line_finding(kind, number, text, line_at(number, text))
 }

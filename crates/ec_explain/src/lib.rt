@@ -5,6 +5,7 @@ mod cause;
 mod entry;
 mod finding;
 mod head;
+mod history_lines;
 mod kinds;
 mod line;
 mod lines;

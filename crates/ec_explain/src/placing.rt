@@ -1,7 +1,8 @@
 //! The cause for which a line is rejected, and the place that shows it.
 ghost use Rattle.std.specs.Prelude.{◌≡◌};
-ghost use Rattle.ec_explain.specs.Causes.{site_cause, cause_at, name_place, first_unlisted};
+ghost use Rattle.ec_explain.specs.Causes.{site_cause, cause_at, name_place, first_failing};
 ghost use Rattle.ec_explain.specs.Causes.{unknown_place, word_place, place_at};
+ghost use Rattle.ec_explain.specs.Places.{word_test};
 
 use crate::cause::Cause;
 use crate::entry::{entry_cause, equals_place};
@@ -48,9 +49,9 @@ fn name_place(site: &Site<'_>, line: &[u8]) -> usize
     }
 }
 
-/// Returns the index of the first word after a declaration's name that may not follow it.
-fn first_unlisted(heading: &Heading, line: &[u8]) -> usize
-    ensures { result ≡ first_unlisted heading.now.words line.now }
+/// Returns the index of the first word after a declaration's name that fails a test.
+pub(crate) fn first_failing(test: &WordTest<'_>, line: &[u8]) -> usize
+    ensures { result ≡ first_failing (word_test test.now) line.now }
 {
     let (_, Some(rest)) = cut_word(line) else {
         return 2;
@@ -58,7 +59,7 @@ fn first_unlisted(heading: &Heading, line: &[u8]) -> usize
     let (_, Some(rest)) = cut_word(rest) else {
         return 2;
     };
-    2 + words_before(&WordTest::Listed(heading), rest)
+    2 + words_before(test, rest)
 }
 
 /// Returns the index of the word in a list that is no worker.
@@ -66,7 +67,7 @@ fn unknown_place(site: &Site<'_>, line: &[u8]) -> usize
     ensures { result ≡ unknown_place site.now line.now }
 {
     match site {
-        Site::Declaration(heading, _) => first_unlisted(heading, line),
+        Site::Declaration(heading, _) => first_failing(&WordTest::Listed(heading), line),
         _ => 2,
     }
 }

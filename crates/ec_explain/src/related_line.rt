@@ -2,7 +2,9 @@
 ghost use Rattle.std.specs.Prelude.{◌≡◌, None, Some, if◌then◌else◌};
 ghost use Rattle.ec_explain.specs.RelatedLine.{base_of, call_line, declaration_line, fits};
 ghost use Rattle.ec_explain.specs.RelatedLine.{hand_line, last_in, lines_of, right_line};
+ghost use Rattle.ec_explain.specs.RelatedLine.{line_with, only_after, object_line};
 
+use crate::history_lines::opening_line;
 use crate::lines::{line_at, position_or_end, text_before_line};
 use crate::words::{is_same, word_at};
 use ec_text::cut_line;
@@ -16,6 +18,10 @@ enum Target<'a> {
     Declaration(&'a [u8]),
     /// A line by which this worker transfers its component of the eventcount called so.
     Hand(&'a [u8], &'a [u8]),
+    /// A line that begins with this word.
+    First(&'a [u8]),
+    /// The line of a history that declares what is called so.
+    Object(&'a [u8]),
 }
 
 /// Returns whether a line is one that is looked for.
@@ -33,6 +39,10 @@ fn fits(sought: &Target<'_>, line: &[u8]) -> bool
             is_same(word_at(0, line), worker)
                 && (is_same(word_at(1, line), b"hand".as_slice())
                     && is_same(word_at(2, line), name))
+        }
+        Target::First(word) => is_same(word_at(0, line), word),
+        Target::Object(name) => {
+            is_same(word_at(1, line), name) && !is_same(word_at(0, line), b"from".as_slice())
         }
     }
 }
@@ -107,4 +117,31 @@ pub(crate) fn right_line(number: u64, text: &[u8]) -> Option<usize>
         Some(line) => Some(line),
         None => declaration_line(number, text),
     }
+}
+
+/// Returns the number of the last line before a line that begins with this word; 0 if there is
+/// none.
+pub(crate) fn line_with(word: &[u8], number: u64, text: &[u8]) -> usize
+    ensures { result ≡ line_with word.now number text.now }
+{
+    let before = text_before_line(number, text);
+    last_in(&Target::First(word), before).unwrap_or(0)
+}
+
+/// Returns the number of a line if it is greater than this one.
+fn only_after(first: usize, line: Option<usize>) -> Option<usize>
+    ensures { result ≡ only_after first line }
+{
+    let number = line?;
+    if first < number { Some(number) } else { None }
+}
+
+/// Returns the number of the line by which a line's history declares the object of a word.
+pub(crate) fn object_line(word: &[u8], number: u64, text: &[u8]) -> Option<usize>
+    ensures { result ≡ object_line word.now number text.now }
+{
+    let name = base_of(word);
+    let before = text_before_line(number, text);
+    let found = last_in(&Target::Object(name), before);
+    only_after(opening_line(number, text), found)
 }

@@ -3,7 +3,7 @@ ghost use Rattle.std.specs.Prelude.{◌≡◌, ◌≤◌, ◌+◌, bytes_eq, len
 ghost use Rattle.std.specs.List.{list_any};
 ghost use Rattle.ec_text.specs.Words.{words_of};
 ghost use Rattle.ec_explain.specs.Places.{word_at, bytes_before, word_start, words_before};
-ghost use Rattle.ec_explain.specs.Places.{word_test};
+ghost use Rattle.ec_explain.specs.Places.{word_test, is_among, names_worker};
 
 use ec_count::is_name;
 use ec_heading::Heading;
@@ -64,6 +64,30 @@ pub(crate) fn word_start(place: usize, line: &[u8]) -> usize
     bytes_before(place, line).min(line.len())
 }
 
+/// Returns whether a list has this word.
+fn has_word(list: &[u8], word: &[u8]) -> bool
+    ensures { result ≡ is_among (words_of list.now) word.now }
+{
+    let (first, rest) = cut_word(list);
+    if is_same(first, word) {
+        return true;
+    }
+    match rest {
+        None => false,
+        Some(rest) => has_word(rest, word),
+    }
+}
+
+/// Returns whether a line, which names the workers, names this one.
+pub(crate) fn names_worker(line: &[u8], word: &[u8]) -> bool
+    ensures { result ≡ names_worker line.now word.now }
+{
+    match cut_word(line) {
+        (_, None) => false,
+        (_, Some(list)) => has_word(list, word),
+    }
+}
+
 /// A test of a word.
 #[derive(Drop)]
 pub(crate) enum WordTest<'a> {
@@ -71,6 +95,8 @@ pub(crate) enum WordTest<'a> {
     Name,
     /// It may follow the name of a declaration under this header.
     Listed(&'a Heading),
+    /// It may follow the name of a declaration, if this line names the workers.
+    ListedBy(&'a [u8]),
     /// It has a byte.
     Full,
 }
@@ -85,6 +111,9 @@ fn passes(test: &WordTest<'_>, word: &[u8]) -> bool
             heading.worker(word).is_some()
                 || number(word).is_some()
                 || is_among(&LIST_OPENERS, word)
+        }
+        WordTest::ListedBy(line) => {
+            names_worker(line, word) || number(word).is_some() || is_among(&LIST_OPENERS, word)
         }
         WordTest::Full => !word.is_empty(),
     }
