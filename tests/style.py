@@ -86,7 +86,7 @@ SIZES = {
     "crates/": 13,
     "package/": 14,
 }
-ALL = 131
+ALL = 132
 
 
 def files():
