@@ -4,7 +4,7 @@
 
 mod making;
 
-use calls_core::{Event, Kind};
+use calls_core::{Events, Kind};
 use calls_monitor::Monitor;
 use calls_verdict::{Verdict, decide, first_misuse, has_room};
 use making::{Sort, history};
@@ -13,7 +13,7 @@ use std::process::ExitCode;
 use std::{env, io};
 
 /// Decides a history, and returns how many calls its order has, or `None` if it has no order.
-fn ordered(alloc: Global, kinds: &[Kind], events: &[Event]) -> Result<Option<usize>, AllocError> {
+fn ordered(alloc: Global, kinds: &[Kind], events: &Events) -> Result<Option<usize>, AllocError> {
     if first_misuse(alloc, kinds, events)?.is_some() || !has_room(events) {
         return Ok(None);
     }
@@ -25,10 +25,10 @@ fn ordered(alloc: Global, kinds: &[Kind], events: &[Event]) -> Result<Option<usi
 }
 
 /// Passes a history to a monitor, and returns how many events it accepts.
-fn watched(alloc: Global, kinds: &[Kind], events: &[Event]) -> Result<Option<usize>, AllocError> {
+fn watched(alloc: Global, kinds: &[Kind], events: &Events) -> Result<Option<usize>, AllocError> {
     let mut monitor = Monitor::open(alloc, kinds, &[])?;
-    for (index, event) in events.iter().enumerate() {
-        if monitor.event(*event).is_err() {
+    for index in 0..events.len() {
+        if monitor.event(events.at(index)).is_err() {
             return Ok(Some(index));
         }
     }
@@ -51,8 +51,8 @@ fn judged(alloc: Global, words: &[String]) -> Result<Option<usize>, AllocError> 
     let events = history(alloc, sort, calls)?;
     match mode.as_str() {
         "make" => Ok(Some(events.len())),
-        "decide" => ordered(alloc, kinds.as_slice(), events.as_slice()),
-        "monitor" => watched(alloc, kinds.as_slice(), events.as_slice()),
+        "decide" => ordered(alloc, kinds.as_slice(), &events),
+        "monitor" => watched(alloc, kinds.as_slice(), &events),
         _ => Ok(None),
     }
 }

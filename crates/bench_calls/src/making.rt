@@ -1,5 +1,5 @@
 //! Makes histories that are judged.
-use calls_core::{Action, Event, Kind, Op, Reply};
+use calls_core::{Action, Event, Events, Kind, Op, Reply};
 use std::alloc::{AllocError, Global};
 
 /// How many workers make calls.
@@ -115,13 +115,13 @@ impl Object {
 }
 
 /// Makes a history of so many calls.
-pub fn history(alloc: Global, sort: Sort, calls: usize) -> Result<Vec<Event>, AllocError> {
+pub fn history(alloc: Global, sort: Sort, calls: usize) -> Result<Events, AllocError> {
     let mut object = Object {
         sort,
         number: if sort == Sort::Units { 1 } else { 0 },
         puts: 0,
     };
-    let mut events = Vec::new(alloc);
+    let mut events = Events::new(alloc);
     let mut replies: [Option<Reply>; WORKERS] = [None; WORKERS];
     let mut seed = 1;
     for _ in 0..calls.saturating_mul(2) {
@@ -138,11 +138,8 @@ pub fn history(alloc: Global, sort: Sort, calls: usize) -> Result<Vec<Event>, Al
                 Action::Invoke(0, op)
             }
         };
-        events.push(Event {
-            at: events.len(),
-            worker,
-            action,
-        })?;
+        let at = events.len();
+        events.push(Event { at, worker, action })?;
     }
     Ok(events)
 }

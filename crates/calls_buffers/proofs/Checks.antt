@@ -1,7 +1,7 @@
 -- The steps of a check of an order.
-use Rattle.std.proofs.Common.{◌≡◌, ℕ, ◌<◌, ◌≤◌, ◌↔◌, max, List, [], ◌∷◌, length, get_or, drop}
-use Rattle.std.proofs.Common.{zero, suc, refl, sym, subst, arith, drop-cons}
-use Rattle.calls_buffers.specs.Queues.{IsQueueRun}
+use Rattle.std.proofs.Common.{◌≡◌, ℕ, ◌+◌, ◌<◌, ◌≤◌, ◌↔◌, max, List, [], ◌∷◌, length, get_or, drop}
+use Rattle.std.proofs.Common.{zero, suc, refl, sym, ap, ◌∙◌, subst, arith, drop-cons}
+use Rattle.calls_buffers.specs.Queues.{Allows, items_after, IsQueueRun}
 use Rattle.calls_core.specs.declared.history.Call.{Call}
 use Rattle.calls_core.specs.Lists.{Each, EachPair}
 use Rattle.calls_core.specs.Linearizations.{KeepsOrder}
@@ -76,3 +76,36 @@ rises_end cs i m le is = keeps_order cs (is.1 (subst (Rises m) (sym (drop_none i
 pub run_end : (n : ℕ) (items : List ℕ) (cs : List Call) (i : ℕ) → length cs ≤ i
     → (IsQueueRun n [] cs ↔ IsQueueRun n items (drop i cs)) → IsQueueRun n [] cs
 run_end n items cs i le is = is.1 (subst (IsQueueRun n items) (sym (drop_none i cs le)) tt)
+
+-- THE NEXT CALL
+
+module _ (cs : List Call) (i : ℕ) (x : Call) (lt : i < length cs) (read : x ≡ get_or cs i x) where
+  next : drop i cs ≡ x ∷ drop (i + 1) cs
+  next =
+      let one : suc i ≡ i + 1 = omega arith in
+      subst (λ k. drop i cs ≡ x ∷ drop k cs) one
+      (drop-cons cs i x lt ∙ ap (λ y. y ∷ drop (suc i) cs) (sym read))
+
+  pub rises_more : (m : ℕ) → m ≤ x.last → (Rises 0 cs ↔ Rises m (drop i cs))
+      → Rises 0 cs ↔ Rises (max m x.first) (drop (i + 1) cs)
+  rises_more m le is = (
+    λ h. (subst (Rises m) next (is.0 h)).1,
+    λ h. is.1 (subst (Rises m) (sym next) (le, h)),
+  )
+
+  module _ (n : ℕ) (items : List ℕ)
+      (is : IsQueueRun n [] cs ↔ IsQueueRun n items (drop i cs)) where
+    pub run_stop : (Allows n items x.op x.reply → ⊥) → IsQueueRun n [] cs → ⊥
+    run_stop never h = never (subst (IsQueueRun n items) next (is.0 h)).0
+
+    pub run_more : (after : List ℕ) → Allows n items x.op x.reply
+        → after ≡ items_after items x.op x.reply
+        → IsQueueRun n [] cs ↔ IsQueueRun n after (drop (i + 1) cs)
+    run_more after allowed e = (
+      λ h. subst (λ z. IsQueueRun n z (drop (i + 1) cs)) (sym e)
+          (subst (IsQueueRun n items) next (is.0 h)).1,
+      λ h. is.1 (subst (IsQueueRun n items) (sym next) (
+        allowed,
+        subst (λ z. IsQueueRun n z (drop (i + 1) cs)) e h,
+      )),
+    )

@@ -4,8 +4,8 @@ use Rattle.std.proofs.Common.{◌++◌, Option, Some, None, length, take, get_or
 use Rattle.std.proofs.Common.{subst, arith, append_assoc, append-nil}
 use Rattle.std.specs.List.Sorted.{IsPermutation}
 use Rattle.std.proofs.lemmas.Bool.{eqb-true, eq-eqb}
-use Rattle.std.proofs.lemmas.List.{take_more, length-take, map-append}
-use Rattle.std.proofs.lemmas.List.Sorted.{IsPermutation-trans, IsPermutation-map, IsPermutation-append_comm}
+use Rattle.std.proofs.lemmas.List.{take_more, length-take}
+use Rattle.std.proofs.lemmas.List.Sorted.{IsPermutation-trans, IsPermutation-append_comm}
 use Rattle.std.proofs.lemmas.List.Sorted.{All-permutation}
 use Rattle.calls_core.specs.declared.history.Kind.TheVariants.{Buffer}
 use Rattle.calls_core.specs.declared.history.Reply.{Reply}

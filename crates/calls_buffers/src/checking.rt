@@ -5,16 +5,17 @@ ghost use Rattle.calls_core.specs.Linearizations.{KeepsOrder};
 ghost use Rattle.calls_core.specs.declared.history.Op.TheVariants.{Produce, Consume};
 ghost use Rattle.calls_buffers.specs.Queues.{Allows, items_after, IsQueueRun, IsLegal};
 
-use calls_core::{Call, Op, Reply};
+use calls_core::{Call, CallList, Op, Reply};
 use std::alloc::{AllocError, Global};
 use std::collections::VecDeque;
 
 /// Returns whether no call comes after one that was invoked after its response.
-fn keeps_order(calls: &[Call]) -> bool
+fn keeps_order(calls: &CallList) -> bool
     ensures { IsTrue result ↔ EachPair KeepsOrder calls.now }
 {
     let mut latest = 0;
-    for call in calls {
+    for i in 0..calls.len() {
+        let call = calls.at(i);
         if call.last < latest {
             return false;
         }
@@ -89,12 +90,12 @@ fn step(room: usize, items: &mut VecDeque<usize>, call: &Call) -> Result<bool, A
 
 /// Returns whether calls, one after another, are possible and return what they return, if the queue
 /// is empty at first.
-fn is_run(alloc: Global, room: usize, calls: &[Call]) -> Result<bool, AllocError>
+fn is_run(alloc: Global, room: usize, calls: &CallList) -> Result<bool, AllocError>
     ensures { IfOk result (λ b. IsTrue b ↔ IsQueueRun room [] calls.now) }
 {
     let mut items = VecDeque::new(alloc);
-    for call in calls {
-        if !step(room, &mut items, call)? {
+    for i in 0..calls.len() {
+        if !step(room, &mut items, &calls.at(i))? {
             return Ok(false);
         }
     }
@@ -103,7 +104,7 @@ fn is_run(alloc: Global, room: usize, calls: &[Call]) -> Result<bool, AllocError
 
 /// Returns whether these calls, in this order, keep the real-time order and are a sequential run of
 /// a buffer with room for so many items.
-pub fn verify(alloc: Global, room: usize, calls: &[Call]) -> Result<bool, AllocError>
+pub fn verify(alloc: Global, room: usize, calls: &CallList) -> Result<bool, AllocError>
     ensures { IfOk result (λ b. IsTrue b ↔ IsLegal room calls.now) }
 {
     if !keeps_order(calls) {

@@ -25,12 +25,12 @@ use crate::finding::find_fault;
 use crate::guessing::guessed_order;
 use crate::planning::{find_order, order_of};
 use crate::ranking::{Ranking, ranked};
-use crate::recorded::{Recorded, record};
+use crate::recorded::{Recorded, list_calls, record};
 use crate::settling::settled_order;
 use crate::testing::unproduced;
 use crate::turns::{Turned, by_turns};
 use crate::windows::{Window, Windows, windows_of};
-use calls_core::{Part, PendingCall, PlacedCalls};
+use calls_core::{CallList, Part, PendingCall};
 use calls_schedule::{Bound, Job, prune};
 use std::alloc::{AllocError, Global};
 
@@ -38,7 +38,7 @@ use std::alloc::{AllocError, Global};
 #[derive(Debug, Drop)]
 pub enum Outcome {
     /// They have this one.
-    Ordered(PlacedCalls),
+    Ordered(CallList),
     /// They have none, since they show this fault.
     Refused(Fault),
     /// Nothing is said. Produces overlap, and consumes too, and some item was put in twice or a
@@ -260,7 +260,7 @@ fn decide_distinct(
 }
 
 /// Returns the first position after the events.
-fn after(events: &Part<'_, '_>) -> usize {
+fn after(events: &Part<'_>) -> usize {
     match events.len().checked_sub(1) {
         Some(i) => events.at(i).at.saturating_add(1),
         None => 0,
@@ -271,7 +271,7 @@ fn after(events: &Part<'_, '_>) -> usize {
 fn decide_recorded(
     alloc: Global,
     room: usize,
-    events: &Part<'_, '_>,
+    events: &Part<'_>,
     end: usize,
 ) -> Result<Outcome, AllocError>
     requires history { IsHistoryOf (Buffer room) (reverse events.now) }
@@ -297,14 +297,14 @@ fn decide_recorded(
 pub fn decide(
     alloc: Global,
     room: usize,
-    events: &Part<'_, '_>,
+    events: &Part<'_>,
     end: usize,
 ) -> Result<Outcome, AllocError>
     requires history { IsHistoryOf (Buffer room) (reverse events.now) }
     requires end { clock (reverse events.now) ≤ end }
     ensures { IfOk result (IsOutcome room events.now end) }
 {
-    match guessed_order(alloc, room, record(alloc, events)?, end)? {
+    match guessed_order(alloc, room, list_calls(alloc, events)?, end)? {
         Some(order) => Ok(Outcome::Ordered(order)),
         None => decide_recorded(alloc, room, events, end),
     }

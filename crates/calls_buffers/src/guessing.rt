@@ -1,21 +1,21 @@
 //! Guesses an order of the calls of a buffer, and returns it if it is a linearization.
-ghost use Rattle.std.specs.Prelude.{IfOk, IfSome};
+ghost use Rattle.std.specs.Prelude.{◌≡◌, ◌++◌, reverse, IfOk, IfSome, OnOk};
 ghost use Rattle.std.specs.List.Sorted.{IsPermutation};
 ghost use Rattle.calls_buffers.specs.kept.Orders.{IsFound};
 
 use crate::checking::verify;
-use crate::numbered::{NONE, Numbered, puts, set};
-use crate::ordering::{answered, placed};
-use crate::recorded::Recorded;
-use calls_core::{Call, Op, PendingCall, PlacedCalls, Reply};
+use crate::numbered::{NONE, Numbered, Numbers, puts};
+use crate::ordering::answered;
+use crate::recorded::Listed;
+use calls_core::{Call, CallList, Op, PendingCall, Reply};
 use std::alloc::{AllocError, Global};
 use std::collections::VecDeque;
 
 /// An order of calls.
 #[derive(Drop)]
 struct Guess {
-    /// The place of each completed call and of each pending one that takes effect, at their indices.
-    places: Vec<usize>,
+    /// The places of the completed calls and the pending ones that take effect, at their indices.
+    places: Numbers,
     /// The replies of the pending ones that take effect, at the indices of these.
     answers: Vec<Option<Reply>>,
 }
@@ -29,7 +29,7 @@ struct Sweep<'c> {
     /// The calls.
     calls: Numbered<'c>,
     /// The places of calls.
-    places: Vec<usize>,
+    places: Numbers,
     /// How many calls have places.
     count: usize,
     /// The produces by their invocations, each with the position of its own.
@@ -61,13 +61,13 @@ fn askers(
 
 impl<'c> Sweep<'c> {
     /// Begins with an empty buffer.
-    fn new(alloc: Global, room: usize, calls: &'c Recorded) -> Result<Sweep<'c>, AllocError> {
+    fn new(alloc: Global, room: usize, calls: &'c Listed) -> Result<Sweep<'c>, AllocError> {
         let mut puts = puts(alloc, calls)?;
         let numbered = Numbered::new(alloc, calls, &puts)?;
         numbered.by_start(&mut puts)?;
         Ok(Sweep {
             room,
-            places: Vec::from_elem(alloc, NONE, numbered.count())?,
+            places: Numbers::none(alloc, numbered.count())?,
             count: 0,
             starts: puts,
             started: 0,
@@ -80,15 +80,12 @@ impl<'c> Sweep<'c> {
 
     /// Returns whether a call has a place.
     fn has_place(&self, number: usize) -> bool {
-        match self.places.get(self.calls.slot(number)) {
-            Some(place) => *place != NONE,
-            None => true,
-        }
+        number >= self.places.len() || self.places.get(number) != NONE
     }
 
     /// Gives a call the next place.
     fn place(&mut self, number: usize) {
-        set(&mut self.places, self.calls.slot(number), self.count);
+        self.places.set(number, self.count);
         self.count = self.count.saturating_add(1);
     }
 
@@ -290,16 +287,16 @@ impl<'c> Sweep<'c> {
             answers.push(self.answer(number, call.op))?;
         }
         let mut places = self.places;
-        places.retain(|place| *place != NONE);
+        places.close_up();
         Ok(Guess { places, answers })
     }
 }
 
 /// Guesses an order.
-fn make_guess(alloc: Global, room: usize, calls: &Recorded) -> Result<Option<Guess>, AllocError> {
+fn make_guess(alloc: Global, room: usize, calls: &Listed) -> Result<Option<Guess>, AllocError> {
     let mut sweep = Sweep::new(alloc, room, calls)?;
-    for (number, call) in calls.done.iter().rev().enumerate() {
-        if !sweep.force(number, call)? {
+    for number in 0..calls.done.len() {
+        if !sweep.force(number, &calls.done.at(number))? {
             return Ok(None);
         }
     }
@@ -308,14 +305,14 @@ fn make_guess(alloc: Global, room: usize, calls: &Recorded) -> Result<Option<Gue
 
 /// Exchanges the call at an index with the one at its place, and returns the index, or the next one
 /// if the call is there.
-fn settle(calls: &mut [Call], places: &mut [usize], i: usize) -> usize
+fn settle(calls: &mut CallList, places: &mut Numbers, i: usize) -> usize
     ensures { IsPermutation calls.old calls.new }
 {
-    if i >= calls.len() || i >= places.len() {
+    let place = places.get(i);
+    if i >= calls.len() || place >= calls.len() {
         return i;
     }
-    let place = places[i];
-    if place == i || place >= calls.len() || place >= places.len() {
+    if place == i {
         return i + 1;
     }
     calls.swap(i, place);
@@ -324,7 +321,7 @@ fn settle(calls: &mut [Call], places: &mut [usize], i: usize) -> usize
 }
 
 /// Exchanges calls until each is at its place.
-fn arrange(calls: &mut [Call], mut places: Vec<usize>)
+fn arrange(calls: &mut CallList, mut places: Numbers)
     ensures { IsPermutation calls.old calls.new }
 {
     let mut i = 0;
@@ -333,27 +330,37 @@ fn arrange(calls: &mut [Call], mut places: Vec<usize>)
     }
 }
 
+/// Adds calls at the end of a list.
+fn add_calls(list: &mut CallList, calls: &[Call]) -> Result<(), AllocError>
+    ensures { OnOk result (list.new ≡ list.old ++ calls.now) }
+{
+    for call in calls {
+        list.push(*call)?;
+    }
+    Ok(())
+}
+
 /// Returns an order of calls, if one is guessed.
 pub(crate) fn guessed_order(
     alloc: Global,
     room: usize,
-    calls: Recorded,
+    calls: Listed,
     end: usize,
-) -> Result<Option<PlacedCalls>, AllocError>
-    ensures { IfOk result (λ order. IfSome order (IsFound room calls.done.items
+) -> Result<Option<CallList>, AllocError>
+    ensures { IfOk result (λ order. IfSome order (IsFound room (reverse calls.done)
         calls.pending.items end)) }
 {
     let Some(Guess { places, answers }) = make_guess(alloc, room, &calls)? else {
         return Ok(None);
     };
-    let Recorded {
+    let Listed {
         done: mut list,
         pending,
     } = calls;
-    list.extend_from_slice(&answered(alloc, &pending, &answers, end)?)?;
+    add_calls(&mut list, &answered(alloc, &pending, &answers, end)?)?;
     arrange(&mut list, places);
     if !verify(alloc, room, &list)? {
         return Ok(None);
     }
-    Ok(Some(placed(alloc, list)?))
+    Ok(Some(list))
 }

@@ -1,34 +1,74 @@
 //! The calls of a history by numbers, and a guess of which consume took the item of which produce.
 use crate::items::{produced_item, put_item, taken_item};
-use crate::recorded::Recorded;
+use crate::recorded::Listed;
 use calls_core::Call;
 use std::alloc::{AllocError, Global};
 
 /// The number of no call, and a position after all events.
 pub(crate) const NONE: usize = usize::MAX;
 
+/// Numbers of calls, or places, in 32 bits each.
+#[derive(Drop)]
+pub(crate) struct Numbers {
+    list: Vec<u32>,
+}
+
+impl Numbers {
+    /// Returns a list of so many times `NONE`.
+    pub(crate) fn none(alloc: Global, count: usize) -> Result<Numbers, AllocError> {
+        Ok(Numbers {
+            list: Vec::from_elem(alloc, u32::MAX, count)?,
+        })
+    }
+
+    /// Returns how many there are.
+    pub(crate) fn len(&self) -> usize {
+        self.list.len()
+    }
+
+    /// Returns the number at an index, `NONE` if there is none.
+    pub(crate) fn get(&self, i: usize) -> usize {
+        match self.list.get(i) {
+            Some(number) if *number < u32::MAX => *number as usize,
+            _ => NONE,
+        }
+    }
+
+    /// Writes a number at an index. One that does not fit becomes `NONE`.
+    pub(crate) fn set(&mut self, i: usize, number: usize) {
+        if let Some(slot) = self.list.get_mut(i) {
+            *slot = u32::try_from(number).unwrap_or(u32::MAX);
+        }
+    }
+
+    /// Exchanges two numbers.
+    pub(crate) fn swap(&mut self, i: usize, j: usize) {
+        if i < self.list.len() && j < self.list.len() {
+            self.list.swap(i, j);
+        }
+    }
+
+    /// Drops each `NONE`.
+    pub(crate) fn close_up(&mut self) {
+        self.list.retain(|number| *number < u32::MAX);
+    }
+}
+
 /// The calls of a history by numbers: the completed ones in the order of their responses, and then
 /// the pending ones.
 #[derive(Drop)]
 pub(crate) struct Numbered<'c> {
     /// The calls.
-    calls: &'c Recorded,
+    calls: &'c Listed,
     /// At the number of a produce that of its consume, and at that of a consume its produce.
-    mates: Vec<usize>,
-}
-
-/// Writes a value at an index.
-pub(crate) fn set(list: &mut [usize], i: usize, value: usize) {
-    if let Some(place) = list.get_mut(i) {
-        *place = value;
-    }
+    mates: Numbers,
 }
 
 /// Lists the completed produces that took effect, each with its item.
-fn completed_puts(alloc: Global, calls: &Recorded) -> Result<Vec<(usize, usize)>, AllocError> {
+fn completed_puts(alloc: Global, calls: &Listed) -> Result<Vec<(usize, usize)>, AllocError> {
     let mut list = Vec::new(alloc);
-    for (number, call) in calls.done.iter().rev().enumerate() {
-        if let Some(item) = put_item(call) {
+    for number in 0..calls.done.len() {
+        if let Some(item) = put_item(&calls.done.at(number)) {
             list.push((item, number))?;
         }
     }
@@ -36,7 +76,7 @@ fn completed_puts(alloc: Global, calls: &Recorded) -> Result<Vec<(usize, usize)>
 }
 
 /// Lists the produces that may have taken effect, by their items and responses.
-pub(crate) fn puts(alloc: Global, calls: &Recorded) -> Result<Vec<(usize, usize)>, AllocError> {
+pub(crate) fn puts(alloc: Global, calls: &Listed) -> Result<Vec<(usize, usize)>, AllocError> {
     let mut list = completed_puts(alloc, calls)?;
     for (i, call) in calls.pending.iter().enumerate() {
         if let Some(item) = produced_item(call.op) {
@@ -48,10 +88,10 @@ pub(crate) fn puts(alloc: Global, calls: &Recorded) -> Result<Vec<(usize, usize)
 }
 
 /// Lists the consumes that returned an item, by their items and responses.
-fn takes(alloc: Global, calls: &Recorded) -> Result<Vec<(usize, usize)>, AllocError> {
+fn takes(alloc: Global, calls: &Listed) -> Result<Vec<(usize, usize)>, AllocError> {
     let mut list = Vec::new(alloc);
-    for (number, call) in calls.done.iter().rev().enumerate() {
-        if let Some(item) = taken_item(call) {
+    for number in 0..calls.done.len() {
+        if let Some(item) = taken_item(&calls.done.at(number)) {
             list.push((item, number))?;
         }
     }
@@ -60,13 +100,13 @@ fn takes(alloc: Global, calls: &Recorded) -> Result<Vec<(usize, usize)>, AllocEr
 }
 
 /// Pairs the produces of each item with its consumes, in their order.
-fn pair(mates: &mut [usize], puts: &[(usize, usize)], takes: &[(usize, usize)]) {
+fn pair(mates: &mut Numbers, puts: &[(usize, usize)], takes: &[(usize, usize)]) {
     let mut next: usize = 0;
     for (item, put) in puts {
         if let Some((taken, take)) = takes.get(next) {
             if taken == item {
-                set(mates, *put, *take);
-                set(mates, *take, *put);
+                mates.set(*put, *take);
+                mates.set(*take, *put);
                 next = next.saturating_add(1);
             }
         }
@@ -74,15 +114,15 @@ fn pair(mates: &mut [usize], puts: &[(usize, usize)], takes: &[(usize, usize)]) 
 }
 
 impl<'c> Numbered<'c> {
-    /// Numbers calls, and pairs those of each item in the order of their responses. The produces are
-    /// listed by their items and responses.
+    /// Numbers calls, and pairs those of each item in the order of their responses. The produces
+    /// are listed by their items and responses.
     pub(crate) fn new(
         alloc: Global,
-        calls: &'c Recorded,
+        calls: &'c Listed,
         puts: &[(usize, usize)],
     ) -> Result<Numbered<'c>, AllocError> {
         let count = calls.done.len().saturating_add(calls.pending.len());
-        let mut mates = Vec::from_elem(alloc, NONE, count)?;
+        let mut mates = Numbers::none(alloc, count)?;
         pair(&mut mates, puts, &takes(alloc, calls)?);
         Ok(Numbered { calls, mates })
     }
@@ -97,20 +137,13 @@ impl<'c> Numbered<'c> {
         self.calls.done.len()
     }
 
-    /// Returns the index among the completed calls of the one with a number.
-    fn index(&self, number: usize) -> Option<usize> {
-        let after = self.calls.done.len().checked_sub(number)?;
-        after.checked_sub(1)
-    }
-
     /// Returns a completed call.
-    pub(crate) fn call(&self, number: usize) -> Option<&'c Call> {
-        self.calls.done.get(self.index(number)?)
-    }
-
-    /// Returns where the place of a call is noted.
-    pub(crate) fn slot(&self, number: usize) -> usize {
-        self.index(number).unwrap_or(number)
+    fn call(&self, number: usize) -> Option<Call> {
+        if number < self.calls.done.len() {
+            Some(self.calls.done.at(number))
+        } else {
+            None
+        }
     }
 
     /// Returns the position of the invocation of a call.
@@ -135,7 +168,7 @@ impl<'c> Numbered<'c> {
 
     /// Returns the call that puts in or takes out the same item.
     pub(crate) fn mate(&self, number: usize) -> usize {
-        self.mates.get(number).copied().unwrap_or(NONE)
+        self.mates.get(number)
     }
 
     /// Returns the item of a produce.
@@ -149,7 +182,7 @@ impl<'c> Numbered<'c> {
 
     /// Gives a pending consume to a produce.
     pub(crate) fn give(&mut self, put: usize, take: usize) {
-        set(&mut self.mates, take, put);
+        self.mates.set(take, put);
     }
 
     /// Sorts produces by their invocations, and notes the positions of these in place of the items.

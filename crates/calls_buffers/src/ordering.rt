@@ -12,11 +12,11 @@ ghost use Rattle.calls_buffers.specs.kept.Orders.{Before};
 
 use crate::checking::verify;
 use crate::recorded::Recorded;
-use calls_core::{Call, Op, PendingCall, PlacedCalls, Reply};
+use calls_core::{Call, CallList, Op, PendingCall, Reply};
 use std::alloc::{AllocError, Global};
 use std::collections::HashMap;
 
-/// How many calls get a point before memory is given back.
+/// How many calls are listed before memory is given back.
 const BLOCK: usize = 65536;
 
 /// The place of a call in an order.
@@ -158,12 +158,12 @@ pub(crate) fn answered(
     Ok(list)
 }
 
-/// Returns calls with their points. The memory of those that have one is given back.
-pub(crate) fn placed(alloc: Global, mut calls: Vec<Call>) -> Result<PlacedCalls, AllocError>
+/// Returns calls in little memory. That of those which were listed is given back meanwhile.
+fn listed(alloc: Global, mut calls: Vec<Call>) -> Result<CallList, AllocError>
     ensures { IfOk result (λ order. order ≡ calls.items) }
 {
     calls.reverse();
-    let mut order = PlacedCalls::new(alloc);
+    let mut order = CallList::new(alloc);
     while let Some(call) = calls.pop() {
         order.push(call)?;
         if calls.len() % BLOCK == 0 {
@@ -182,7 +182,7 @@ pub(crate) fn follow(
     plan: &Plan,
     answers: &[Option<Reply>],
     end: usize,
-) -> Result<Option<PlacedCalls>, AllocError>
+) -> Result<Option<CallList>, AllocError>
     ensures sound { IfOk result (λ order. IfSome order (IsFound room calls.now.done.items
         calls.now.pending.items end)) }
     ensures found { ((cs : List Call) → IsPermutation (calls.now.done.items ++ answered_from end
@@ -191,9 +191,9 @@ pub(crate) fn follow(
         → IsLegal room cs) → IfOk result (λ order. IsSome order) }
 {
     let answered = answered(alloc, &calls.pending, answers, end)?;
-    let order = sorted(alloc, plan, &calls.done, &answered)?;
+    let order = listed(alloc, sorted(alloc, plan, &calls.done, &answered)?)?;
     if !verify(alloc, room, &order)? {
         return Ok(None);
     }
-    Ok(Some(placed(alloc, order)?))
+    Ok(Some(order))
 }

@@ -19,7 +19,7 @@ use crate::ordering::{Key, Plan, find, follow};
 use crate::ranking::{Ranking, ranked};
 use crate::recorded::Recorded;
 use crate::windows::Window;
-use calls_core::{Op, PendingCall, PlacedCalls, Reply};
+use calls_core::{CallList, Op, PendingCall, Reply};
 use std::alloc::{AllocError, Global};
 use std::collections::HashMap;
 
@@ -212,7 +212,7 @@ pub(crate) fn order_of(
     order: &[Window],
     taken: &[Option<usize>],
     end: usize,
-) -> Result<Option<PlacedCalls>, AllocError>
+) -> Result<Option<CallList>, AllocError>
     ensures sound { IfOk result (λ order. IfSome order (IsFound room calls.now.done.items
         calls.now.pending.items end)) }
     ensures found { (ws : List Window) → AreCallsOf (Buffer room) calls.now.done.items
@@ -337,7 +337,7 @@ fn order_with(
     calls: &Recorded,
     windows: &[Window],
     end: usize,
-) -> Result<Option<PlacedCalls>, AllocError>
+) -> Result<Option<CallList>, AllocError>
     ensures { IfOk result (λ order. IfSome order (IsFound room calls.now.done.items
         calls.now.pending.items end)) }
 {
@@ -357,7 +357,7 @@ pub(crate) fn find_order(
     calls: &Recorded,
     windows: &[Window],
     end: usize,
-) -> Result<Option<PlacedCalls>, AllocError>
+) -> Result<Option<CallList>, AllocError>
     ensures { IfOk result (λ order. IfSome order (IsFound room calls.now.done.items
         calls.now.pending.items end)) }
 {

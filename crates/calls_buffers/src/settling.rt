@@ -13,7 +13,7 @@ ghost use Rattle.calls_buffers.specs.kept.Decisions.{Fits};
 use crate::planning::order_of;
 use crate::recorded::Recorded;
 use crate::windows::Window;
-use calls_core::{Call, PendingCall, PlacedCalls, Reply};
+use calls_core::{Call, CallList, PendingCall, Reply};
 use std::alloc::{AllocError, Global};
 
 /// Returns the reply of the call that was invoked at a position, if it is one of these windows.
@@ -104,7 +104,7 @@ pub(crate) fn settled_order(
     calls: &Recorded,
     windows: &[Window],
     end: usize,
-) -> Result<Option<PlacedCalls>, AllocError>
+) -> Result<Option<CallList>, AllocError>
     ensures sound { IfOk result (λ order. IfSome order (IsFound room calls.now.done.items
         calls.now.pending.items end)) }
     ensures found { AreCallsOf (Buffer room) calls.now.done.items calls.now.pending.items end

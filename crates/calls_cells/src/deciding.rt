@@ -9,14 +9,14 @@ ghost use Rattle.calls_cells.specs.Faults.{IsOutside};
 ghost use Rattle.calls_cells.specs.kept.Tries.{IsTry};
 
 use crate::outcome::{Fault, Outcome, Undecided};
-use calls_core::{Part, PlacedCalls};
+use calls_core::{CallList, Part};
 use std::alloc::{AllocError, Global};
 
 /// What is found of a prefix of the events.
 #[derive(Debug, Drop)]
 enum Try {
     /// It has this linearization.
-    Ordered(PlacedCalls),
+    Ordered(CallList),
     /// It has none, since the event at this index shows this fault.
     Refused(usize, Fault),
     /// It is of neither class.
@@ -24,7 +24,7 @@ enum Try {
 }
 
 /// Tries both classes on a prefix: distinct values, then serial puts.
-fn try_both(alloc: Global, events: &Part<'_, '_>, end: usize) -> Result<Try, AllocError>
+fn try_both(alloc: Global, events: &Part<'_>, end: usize) -> Result<Try, AllocError>
     requires history { IsHistoryOf Cell (reverse events.now) }
     requires late { clock (reverse events.now) ≤ end }
     ensures { IfOk result (IsTry events.now end) }
@@ -52,7 +52,7 @@ fn try_both(alloc: Global, events: &Part<'_, '_>, end: usize) -> Result<Try, All
 /// From the event at index `low` on they are of neither class.
 fn leave_open(
     alloc: Global,
-    events: &Part<'_, '_>,
+    events: &Part<'_>,
     low: usize,
     undecided: Undecided,
 ) -> Result<Outcome, AllocError>
@@ -77,7 +77,7 @@ fn leave_open(
 /// All calls together are of neither class.
 fn decide_beginning(
     alloc: Global,
-    events: &Part<'_, '_>,
+    events: &Part<'_>,
     end: usize,
     undecided: Undecided,
 ) -> Result<Outcome, AllocError>
@@ -93,7 +93,10 @@ fn decide_beginning(
         let mid = low + (high - low) / 2;
         let beginning = events.first(mid);
         match try_both(alloc, &beginning, end)? {
-            Try::Ordered(_) => low = mid,
+            Try::Ordered(calls) => {
+                drop(calls);
+                low = mid;
+            }
             Try::Refused(i, fault) => return Ok(Outcome::Refused(i, fault)),
             Try::Open(cause) => {
                 undecided = cause;
@@ -108,7 +111,7 @@ fn decide_beginning(
 ///
 /// This is decided if each value that was got was put at most once (0 never), or if no two puts
 /// overlap, or if a value was got that was never put. A database is decided in the same way.
-pub fn decide(alloc: Global, events: &Part<'_, '_>, end: usize) -> Result<Outcome, AllocError>
+pub fn decide(alloc: Global, events: &Part<'_>, end: usize) -> Result<Outcome, AllocError>
     requires history { IsHistoryOf Cell (reverse events.now) }
     requires late { clock (reverse events.now) ≤ end }
     ensures { IfOk result (IsOutcome Cell events.now end) }

@@ -1,5 +1,5 @@
 //! What is decided of a cell or a database.
-use calls_core::{PendingCall, PlacedCalls};
+use calls_core::{CallList, PendingCall};
 
 /// Why the calls have no linearization.
 #[derive(Debug, Drop)]
@@ -12,7 +12,7 @@ pub enum Fault {
 
 /// Why nothing is decided: a get returned a value that is not distinct, and two puts overlap.
 ///
-/// The value was put twice, or it is 0 and was put. Each get returned a value that was put by then.
+/// The value was put twice, or it is 0 and was put. Each get returned 0, or a value put by then.
 #[derive(Clone, Copy, Debug, PartialEq, Eq)]
 pub struct Undecided {
     /// The value that a get returned.
@@ -27,7 +27,7 @@ pub struct Undecided {
 #[derive(Debug, Drop)]
 pub enum Outcome {
     /// The calls have this linearization.
-    Ordered(PlacedCalls),
+    Ordered(CallList),
     /// They have none: the event at this index is the first with which they show a fault, among
     /// those with which something is decided.
     Refused(usize, Fault),

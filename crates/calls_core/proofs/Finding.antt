@@ -1,5 +1,5 @@
 -- The search for the pending call of a worker.
-use Rattle.std.proofs.Common.{◌≡◌, ℕ, zero, suc, ◌+◌, ◌<◌, ◌==◌, Bool, true, false, List, [], ◌∷◌}
+use Rattle.std.proofs.Common.{◌≡◌, ℕ, zero, suc, ◌<◌, ◌==◌, true, false, List, [], ◌∷◌}
 use Rattle.std.proofs.Common.{length, map, get_or, Some, None, refl, ap, sym, ◌∙◌, arith}
 use Rattle.std.proofs.Common.{cond, slice_get, slice_index_or}
 use Rattle.std.specs.List.{remove}
@@ -8,7 +8,7 @@ use Rattle.std.proofs.lemmas.Option.{get_or_from_slice_get}
 use Rattle.calls_core.specs.declared.history.PendingCall.{PendingCall}
 use Rattle.calls_core.specs.declared.pending.NotedCall.{NotedCall}
 use Rattle.calls_core.specs.Histories.{pending_of, without}
-use Rattle.calls_core.specs.Pending.{noted_calls, IsPendingOf, IsNotedOf}
+use Rattle.calls_core.specs.Pending.{IsPendingOf, IsNotedOf}
 
 abbrev pub NotHis : {X : Type 0} → (X → PendingCall) → ℕ → List X → ℕ → Type 0
 NotHis {X} g w xs k = (x : X) → slice_get xs k ≡ Some x → ((g x).worker == w) ≡ false

@@ -8,3 +8,6 @@ pub mod Beginnings
 mod Placing
 pub mod Finding
 pub mod Ranges
+pub mod Merges
+mod Stable
+mod Packing

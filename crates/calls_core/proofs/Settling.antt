@@ -12,16 +12,16 @@ use Rattle.calls_core.specs.declared.history.Event.{Event}
 use Rattle.calls_core.specs.declared.history.PendingCall.{PendingCall}
 use Rattle.calls_core.specs.declared.history.Call.{Call}
 use Rattle.calls_core.specs.Lists.{Each, EachPair}
-use Rattle.calls_core.specs.Histories.{clock, pending_calls, completion, completed_calls, IsHistory}
+use Rattle.calls_core.specs.Histories.{clock, pending_calls, completion, completed_calls}
 use Rattle.calls_core.specs.Histories.{IsHistoryOf}
-use Rattle.calls_core.specs.Linearizations.{after, IsLegalHistory, initial, set_at, IsRun, start}
+use Rattle.calls_core.specs.Linearizations.{after, IsLegalHistory, initial, set_at, IsRun}
 use Rattle.calls_core.specs.Linearizations.{KeepsOrder, answered_one, answered_calls, IsLinearOrder}
 use Rattle.calls_core.specs.Completions.{with_last, settled_last, settle_call}
 use Rattle.calls_core.specs.Calls.{Early, Earlier, IsCallOf, AreCallsOf, IsCompletedCall, AreCalls}
 use Rattle.calls_core.specs.Outcomes.{IsOrderOf, HasOrderOf}
 use Rattle.calls_core.proofs.Lists.{each_weaker, each_append, all_from_each, all_pairs_from_each}
 use Rattle.calls_core.proofs.Filters.{each_from_all}
-use Rattle.calls_core.proofs.Positions.{are_calls_of, histories_have_calls}
+use Rattle.calls_core.proofs.Positions.{are_calls_of}
 
 -- POSITIONS
 

@@ -7,3 +7,5 @@ pub mod Pending
 pub mod Points
 pub mod Beginnings
 pub mod Outcomes
+pub mod Parts
+pub mod kept

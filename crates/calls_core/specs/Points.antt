@@ -1,5 +1,5 @@
 -- Linearization points: when each call takes effect.
-use Rattle.std.specs.Prelude.{◌≡◌, ℕ, ◌+◌, ◌<◌, ◌≤◌, ◌==◌, nat_le, max, List, [], ◌∷◌, map}
+use Rattle.std.specs.Prelude.{ℕ, ◌+◌, ◌<◌, ◌≤◌, ◌==◌, nat_le, max, List, [], ◌∷◌, map}
 use Rattle.std.specs.Prelude.{if◌then◌else◌}
 use Rattle.std.specs.List.{filter}
 use Rattle.calls_core.specs.declared.history.Reply.{Reply}
@@ -58,11 +58,6 @@ with_response t r c = record {
   first = c.first;
   last = t;
 }
-
--- the calls of one object with their points, of which this is the last, 0 if there is none
-pub record ArePlacedOne (latest : ℕ) (ps : List Placed) : Type 0 where
-  pub points : ps ≡ placed_one 0 (calls_of ps)
-  pub last : latest ≡ last_point 0 (calls_of ps)
 
 -- calls of many objects, in order for each object, merged into an order for all
 abbrev pub merge_calls : List Call → List Call

@@ -2,12 +2,19 @@
 //! with its invocation and its response.
 #![tactic(auto)]
 
+mod call_list;
+mod events;
 mod history;
+#[cfg(test)]
+mod list_tests;
+mod order;
+mod packed;
 mod part;
 mod pending;
-mod placed;
 
+pub use call_list::CallList;
+pub use events::Events;
 pub use history::{Action, Call, Event, Kind, Op, PendingCall, Placed, Reply, WORKERS};
+pub use order::Order;
 pub use part::{Part, PartList};
 pub use pending::{NotedCall, find, find_noted, push_range, take_pending};
-pub use placed::PlacedCalls;

@@ -106,7 +106,7 @@ fn take_in(
 pub fn decide(
     alloc: Global,
     start: usize,
-    events: &Part<'_, '_>,
+    events: &Part<'_>,
     end: usize,
 ) -> Result<Outcome, AllocError>
     requires history { IsHistoryOf (Eventcount start) (reverse events.now) }
@@ -122,7 +122,7 @@ pub fn decide(
     };
     for i in 0..events.len() {
         let event = events.at(i);
-        if let Some(fault) = take_in(alloc, start, &mut scan, *event)? {
+        if let Some(fault) = take_in(alloc, start, &mut scan, event)? {
             return Ok(Outcome::Refused(i, fault));
         }
     }

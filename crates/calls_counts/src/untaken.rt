@@ -5,7 +5,7 @@ ghost use Rattle.calls_counts.specs.Scanning.{Completes};
 
 use crate::find::{fill, is_advance};
 use crate::{PlacedRead, Slot};
-use calls_core::{NotedCall, PlacedCalls, Reply};
+use calls_core::{CallList, NotedCall, Reply};
 use std::alloc::{AllocError, Global};
 
 /// Lets pending advances take the free slots, as if they had their responses at `end`.
@@ -50,7 +50,7 @@ fn find_runs(alloc: Global, reads: &[PlacedRead], places: usize) -> Result<Runs,
 
 /// Appends the reads of a place.
 fn push_run(
-    out: &mut PlacedCalls,
+    out: &mut CallList,
     reads: &[PlacedRead],
     runs: &Runs,
     place: usize,
@@ -69,11 +69,11 @@ fn push_run(
 
 /// Returns the order of the calls: each read is at its place among the slots, and the reads of one
 /// place are in the order of their responses.
-pub fn order(alloc: Global, slots: &[Slot], reads: &[PlacedRead]) -> Result<PlacedCalls, AllocError>
+pub fn order(alloc: Global, slots: &[Slot], reads: &[PlacedRead]) -> Result<CallList, AllocError>
     ensures { IfOk result (IsOrdering slots.now reads.now) }
 {
     let runs = find_runs(alloc, reads, slots.len() + 1)?;
-    let mut out = PlacedCalls::new(alloc);
+    let mut out = CallList::new(alloc);
     for (k, slot) in slots.iter().enumerate() {
         push_run(&mut out, reads, &runs, k)?;
         if let Some(call) = slot.taken {

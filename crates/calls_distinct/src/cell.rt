@@ -1,5 +1,5 @@
 //! The outcome of a decision about a cell.
-use calls_core::{Call, PlacedCalls};
+use calls_core::{Call, CallList};
 
 /// Why the calls of a cell have no linearization.
 #[derive(Clone, Copy, Debug, PartialEq, Eq)]
@@ -18,7 +18,7 @@ pub enum Fault {
 #[derive(Debug, Drop)]
 pub enum Outcome {
     /// They have this linearization. A pending put that took effect has its response at the end.
-    Ordered(PlacedCalls),
+    Ordered(CallList),
     /// They have none: with the event at this index, and with none before, they show this fault.
     Refused(usize, Fault),
     /// Undecided: a get returned this value, which was put twice, or is 0 and was put. The

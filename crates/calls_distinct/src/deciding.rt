@@ -20,7 +20,7 @@ use std::alloc::{AllocError, Global};
 /// Finds a fault that the first n events show.
 fn fault_of_beginning(
     alloc: Global,
-    events: &Part<'_, '_>,
+    events: &Part<'_>,
     n: usize,
 ) -> Result<Option<Fault>, AllocError>
     requires store { IsStoreHistory (reverse events.now) }
@@ -64,11 +64,7 @@ fn latest(fault: &Fault) -> usize {
 /// Finds the first event with which a prefix shows a fault.
 ///
 /// The whole history shows `fault`. What a fault names and bisection take turns.
-fn first_fault(
-    alloc: Global,
-    events: &Part<'_, '_>,
-    fault: Fault,
-) -> Result<(usize, Fault), AllocError>
+fn first_fault(alloc: Global, events: &Part<'_>, fault: Fault) -> Result<(usize, Fault), AllocError>
     requires store { IsStoreHistory (reverse events.now) }
     requires distinct { IsDistinctHistory (reverse events.now) }
     requires room { clock (reverse events.now) ≤ usize.MAX }
@@ -101,7 +97,7 @@ fn first_fault(
 /// Finds a value that the events show to be repeated, and the position of a put of it.
 fn repeated_in(
     alloc: Global,
-    events: &Part<'_, '_>,
+    events: &Part<'_>,
     end: usize,
 ) -> Result<Option<(usize, usize)>, AllocError>
     ensures { IfOk result (λ found. IfSome found (IsRepeatedIn (reverse events.now))) }
@@ -116,7 +112,7 @@ fn repeated_in(
 ///
 /// It returns `Repeated` if a value was got that was put twice, or 0 was put and got. The events
 /// are those of its calls, in order, and `end` is a position after all of them.
-pub fn decide(alloc: Global, events: &Part<'_, '_>, end: usize) -> Result<Outcome, AllocError>
+pub fn decide(alloc: Global, events: &Part<'_>, end: usize) -> Result<Outcome, AllocError>
     requires history { IsStoreHistory (reverse events.now) }
     requires end { clock (reverse events.now) ≤ end }
     ensures { IfOk result (IsOutcome events.now end) }

@@ -58,7 +58,7 @@ fn add_puts(calls: &mut Vec<Call>, pending: &[PendingCall], end: usize) -> Resul
 /// Lists the completed calls, and the pending puts with a response at `end`.
 pub(crate) fn calls_in(
     alloc: Global,
-    events: &Part<'_, '_>,
+    events: &Part<'_>,
     end: usize,
 ) -> Result<Vec<Call>, AllocError>
     ensures { IfOk result (λ v. v.items ≡ begun_calls (completed_calls (reverse events.now))
@@ -67,7 +67,7 @@ pub(crate) fn calls_in(
     let mut calls = Vec::new(alloc);
     let mut pending = Vec::new(alloc);
     for i in 0..events.len() {
-        note(&mut calls, &mut pending, events.at(i))?;
+        note(&mut calls, &mut pending, &events.at(i))?;
     }
     add_puts(&mut calls, &pending, end)?;
     Ok(calls)

@@ -33,10 +33,7 @@ fn is_nowhere(put: &HashSet<usize>, call: &Call) -> bool
 /// Finds the first response of a get of a value that was never put until then.
 ///
 /// It returns the index of that event, and the call. The values may be put twice.
-pub fn first_nowhere(
-    alloc: Global,
-    events: &Part<'_, '_>,
-) -> Result<Option<(usize, Call)>, AllocError>
+pub fn first_nowhere(alloc: Global, events: &Part<'_>) -> Result<Option<(usize, Call)>, AllocError>
     requires history { IsStoreHistory (reverse events.now) }
     ensures { IfOk result (λ r. MatchOption r ((j : ℕ) → AreAllPut (past_at j events.now))
         (λ w. IsFirstNowhere events.now w.0 w.1)) }
@@ -45,8 +42,8 @@ pub fn first_nowhere(
     let mut pending = Vec::new(alloc);
     for i in 0..events.len() {
         let x = events.at(i);
-        let ended = follow(&mut pending, x)?;
-        note_put(&mut put, x)?;
+        let ended = follow(&mut pending, &x)?;
+        note_put(&mut put, &x)?;
         if let Some(call) = ended {
             if is_nowhere(&put, &call) {
                 return Ok(Some((i, call)));

@@ -6,7 +6,7 @@ ghost use Rattle.calls_core.specs.declared.history.Event.{Event};
 use calls_core::Part;
 
 /// Returns how many events come before the first one that is after a position.
-pub fn events_up_to(events: &Part<'_, '_>, position: usize) -> usize
+pub fn events_up_to(events: &Part<'_>, position: usize) -> usize
     ensures within { result ≤ length events.now }
     ensures up_to { (d : Event) (i : ℕ) → i < result → (get_or events.now i d).at ≤ position }
     ensures after { (d : Event) → result < length events.now

@@ -11,7 +11,7 @@ use crate::crossing::{crossing, crossing_fault};
 use crate::testing::first_lacking;
 use crate::zone::{GroupedCall, Zone};
 use crate::zones::sort_zones;
-use calls_core::PlacedCalls;
+use calls_core::CallList;
 use std::alloc::{AllocError, Global};
 
 /// Zones in the order of a linearization, or the fault that shows that there is none.
@@ -24,10 +24,10 @@ pub(crate) enum Verdict<'a> {
 }
 
 /// Lists the calls of the zones, in their order.
-pub(crate) fn calls_of(alloc: Global, zs: &[Zone]) -> Result<PlacedCalls, AllocError>
+pub(crate) fn calls_of(alloc: Global, zs: &[Zone]) -> Result<CallList, AllocError>
     ensures { IfOk result (λ v. v ≡ zone_calls zs.now) }
 {
-    let mut calls = PlacedCalls::new(alloc);
+    let mut calls = CallList::new(alloc);
     for z in zs {
         calls.push(*z.call)?;
     }

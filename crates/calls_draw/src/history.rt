@@ -1,6 +1,6 @@
 //! The history of a text that is drawn.
 use crate::lines::EventLines;
-use calls_core::Event;
+use calls_core::Part;
 use calls_report::LastHistory;
 use calls_verdict::{Refusal, Verdict};
 use std::alloc::{AllocError, Global};
@@ -13,11 +13,11 @@ pub(crate) struct FoundHistory<'a> {
 
 impl<'a> FoundHistory<'a> {
     /// Returns the events that are drawn: all of them, or those up to the first faulty one.
-    pub(crate) fn events(&self) -> &[Event] {
+    pub(crate) fn events(&self) -> Part<'_> {
         let all = self.judged.read.recording.events();
         match &self.judged.verdict {
-            Verdict::Refused(refusal) => all.get(..refusal.at.saturating_add(1)).unwrap_or(all),
-            _ => all,
+            Verdict::Refused(refusal) => Part::prefix(all, refusal.at.saturating_add(1)),
+            _ => Part::whole(all),
         }
     }
 

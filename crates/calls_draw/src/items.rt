@@ -51,13 +51,13 @@ pub(crate) fn held_steps(
     let takes = steps_of(
         alloc,
         picture.kinds,
-        picture.order,
+        &picture.order,
         Track { object, index: 1 },
     )?;
     let puts = steps_of(
         alloc,
         picture.kinds,
-        picture.order,
+        &picture.order,
         Track { object, index: 2 },
     )?;
     let mut held = Vec::new(alloc);
@@ -105,7 +105,8 @@ fn stored_items(
 ) -> Result<Vec<StoredItem>, AllocError> {
     let mut items = Vec::new(alloc);
     let mut taken = 0usize;
-    for (i, placed) in picture.order.iter().enumerate() {
+    for i in 0..picture.order.len() {
+        let placed = picture.order.at(i);
         if placed.call.object == object {
             taken = follow_item(&mut items, taken, i, &placed.call)?;
         }
@@ -115,9 +116,10 @@ fn stored_items(
 
 /// Returns the linearization point of the call at an index.
 fn point_at(picture: &Picture<'_>, i: usize) -> usize {
-    match picture.order.get(i) {
-        Some(placed) => placed.point,
-        None => 0,
+    if i < picture.order.len() {
+        picture.order.at(i).point
+    } else {
+        0
     }
 }
 

@@ -3,7 +3,7 @@ use crate::choice::uses_semaphore;
 use crate::items::{ItemBlocks, held_steps, room_of};
 use crate::picture::Picture;
 use crate::sink::PutResult;
-use calls_core::{Kind, Op, Placed, Reply};
+use calls_core::{Kind, Op, Order, Reply};
 use calls_shapes::{CountFilter, Step, Tally, Track, start_of, steps_of, tallies_of};
 use std::alloc::{AllocError, Global};
 
@@ -119,7 +119,7 @@ fn count_bounds(
     counted: CountFilter,
 ) -> Result<Vec<Bounds>, AllocError> {
     let window = picture.window();
-    let tallies = tallies_of(alloc, picture.events, counted)?;
+    let tallies = tallies_of(alloc, &picture.events, counted)?;
     let shown = tallies.get(window.from..).unwrap_or(&[]);
     let count = window.len().saturating_add(1);
     shown
@@ -139,8 +139,8 @@ fn bounds_between(
     lowering: CountFilter,
 ) -> Result<Vec<Bounds>, AllocError> {
     let window = picture.window();
-    let given = tallies_of(alloc, picture.events, raising)?;
-    let taken = tallies_of(alloc, picture.events, lowering)?;
+    let given = tallies_of(alloc, &picture.events, raising)?;
+    let taken = tallies_of(alloc, &picture.events, lowering)?;
     let mut bounds = Vec::new(alloc);
     for position in window.from..=window.to {
         if let (Some(given), Some(taken)) = (given.get(position), taken.get(position)) {
@@ -180,10 +180,10 @@ fn value_before(start: usize, steps: &[Step], position: usize) -> usize {
 }
 
 /// Returns the indices of the calls of an object in a linearization.
-fn indices_of(alloc: Global, order: &[Placed], object: usize) -> Result<Vec<usize>, AllocError> {
+fn indices_of(alloc: Global, order: &Order, object: usize) -> Result<Vec<usize>, AllocError> {
     let mut indices = Vec::new(alloc);
-    for (i, placed) in order.iter().enumerate() {
-        if placed.call.object == object {
+    for i in 0..order.len() {
+        if order.at(i).call.object == object {
             indices.push(i)?;
         }
     }
@@ -198,9 +198,10 @@ fn spots_of(
     steps: &[Step],
 ) -> Result<Vec<CurveStep>, AllocError> {
     let mut spots = Vec::new(alloc);
-    let indices = indices_of(alloc, picture.order, subject.object())?;
+    let indices = indices_of(alloc, &picture.order, subject.object())?;
     for (i, step) in indices.iter().zip(steps) {
-        if let Some(placed) = picture.order.get(*i) {
+        if *i < picture.order.len() {
+            let placed = picture.order.at(*i);
             let op = placed.call.op;
             if picture.window().has_point(step.point) && subject.shows(placed.call.object, op) {
                 spots.push(CurveStep {
@@ -223,7 +224,7 @@ fn numbers_of(
 ) -> Result<Vec<Step>, AllocError> {
     match subject {
         Subject::Items(object) => held_steps(alloc, picture, object),
-        _ => steps_of(alloc, picture.kinds, picture.order, subject.track()),
+        _ => steps_of(alloc, picture.kinds, &picture.order, subject.track()),
     }
 }
 

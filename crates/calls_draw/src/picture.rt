@@ -5,7 +5,7 @@ use crate::history::FoundHistory;
 use crate::limits::{Limit, limits_of};
 use crate::lines::EventLines;
 use crate::view::{CallsView, Window, window_of};
-use calls_core::{Action, Call, Event, Kind, Op, PendingCall, Placed, Reply};
+use calls_core::{Action, Call, Event, Kind, Op, Order, Part, PendingCall, Reply};
 use calls_shapes::{Bars, Stair, StairSpan, bars_of, faulty_calls, spans_of, stair_of};
 use calls_text::Lists;
 use calls_verdict::{Fault, Refusal, Verdict};
@@ -51,12 +51,12 @@ pub(crate) struct Picture<'a> {
     pub(crate) lines: EventLines<'a>,
     pub(crate) lists: &'a Lists,
     pub(crate) kinds: &'a [Kind],
-    pub(crate) events: &'a [Event],
+    pub(crate) events: Part<'a>,
     pub(crate) bars: Bars,
     /// The bars that are drawn.
     pub(crate) shown: Vec<Bar>,
     /// The calls in a linearization; empty if the history has none or is not decided.
-    pub(crate) order: &'a [Placed],
+    pub(crate) order: Order,
     /// For each event the linearization point of the call that it invokes, 0 if it has none.
     pub(crate) points: Vec<usize>,
     /// The x of the point of each call of `order`, in pixels.
@@ -112,7 +112,7 @@ impl Bar {
 /// Returns the stairs of these courses.
 fn stairs_of(
     alloc: Global,
-    events: &[Event],
+    events: &Part<'_>,
     spans: &[StairSpan],
 ) -> Result<Vec<Stair>, AllocError> {
     let mut stairs = Vec::new(alloc);
@@ -126,7 +126,7 @@ fn stairs_of(
 fn evidence_of<'a>(
     alloc: Global,
     kinds: &[Kind],
-    events: &[Event],
+    events: &Part<'_>,
     refusal: &'a Refusal,
 ) -> Result<Evidence<'a>, AllocError> {
     let spans = spans_of(alloc, kinds, refusal.object, &refusal.fault)?;
@@ -249,11 +249,11 @@ pub(crate) fn usual_from(evidence: &Option<Evidence<'_>>, count: usize) -> usize
 }
 
 /// Returns how many calls in a row from an index on have the same point.
-fn same_points(order: &[Placed], i: usize) -> usize {
+fn same_points(order: &Order, i: usize) -> usize {
     let point = point_at(order, i);
     let mut count = 0usize;
-    for placed in order.get(i..).unwrap_or(&[]) {
-        if placed.point != point {
+    for j in i..order.len() {
+        if order.at(j).point != point {
             return count;
         }
         count = count.saturating_add(1);
@@ -262,33 +262,35 @@ fn same_points(order: &[Placed], i: usize) -> usize {
 }
 
 /// Returns the point of the call at an index.
-fn point_at(order: &[Placed], i: usize) -> usize {
-    match order.get(i) {
-        Some(placed) => placed.point,
-        None => 0,
+fn point_at(order: &Order, i: usize) -> usize {
+    if i < order.len() {
+        order.at(i).point
+    } else {
+        0
     }
 }
 
 /// Returns the x of the point of each call of a linearization. Calls of one point are side by side.
-fn point_xs(alloc: Global, grid: Grid, order: &[Placed]) -> Result<Vec<u64>, AllocError> {
+fn point_xs(alloc: Global, grid: Grid, order: &Order) -> Result<Vec<u64>, AllocError> {
     let mut xs = Vec::new(alloc);
     let mut first = 0;
     let mut count = 0;
-    for (i, placed) in order.iter().enumerate() {
+    for i in 0..order.len() {
         if i >= count {
             first = i;
             count = i.saturating_add(same_points(order, i));
         }
         let rank = i.saturating_sub(first);
-        xs.push(grid.point(placed.point, rank, count.saturating_sub(first)))?;
+        xs.push(grid.point(order.at(i).point, rank, count.saturating_sub(first)))?;
     }
     Ok(xs)
 }
 
 /// Returns for each event the point of the call that it invokes, 0 if it has none.
-fn points_of(alloc: Global, events: &[Event], order: &[Placed]) -> Result<Vec<usize>, AllocError> {
+fn points_of(alloc: Global, events: &Part<'_>, order: &Order) -> Result<Vec<usize>, AllocError> {
     let mut points = vec![in alloc; 0usize; events.len()]?;
-    for placed in order {
+    for i in 0..order.len() {
+        let placed = order.at(i);
         if let Some(point) = points.get_mut(placed.call.first) {
             *point = placed.point;
         }
@@ -305,15 +307,20 @@ fn invoked_object(event: &Event) -> Option<usize> {
 }
 
 /// Returns whether all calls are of one object, which then needs no name. Semaphores need theirs.
-fn has_one_object(events: &[Event], kinds: &[Kind]) -> bool {
-    let Some(first) = events.iter().find_map(|event| invoked_object(event)) else {
-        return true;
-    };
-    let is_one = !matches!(kinds.get(first), Some(Kind::Semaphores(_)));
-    is_one
-        && events
-            .iter()
-            .all(|event| invoked_object(event).is_none_or(|k| k == first))
+fn has_one_object(events: &Part<'_>, kinds: &[Kind]) -> bool {
+    let mut first = None;
+    for i in 0..events.len() {
+        if let Some(object) = invoked_object(&events.at(i)) {
+            if first.is_some_and(|k| k != object) {
+                return false;
+            }
+            first = Some(object);
+        }
+    }
+    match first {
+        Some(object) => !matches!(kinds.get(object), Some(Kind::Semaphores(_))),
+        None => true,
+    }
 }
 
 /// Returns the bars that are drawn: the completed ones, and then the pending ones.
@@ -332,11 +339,14 @@ fn shown_bars(
 }
 
 /// Returns the linearization of a verdict, empty if it has none.
-fn order_of(verdict: &Verdict) -> &[Placed] {
-    match verdict {
-        Verdict::Linearizable(order) => order.as_slice(),
-        _ => &[],
+fn order_of(alloc: Global, verdict: &Verdict) -> Result<Order, AllocError> {
+    let mut copy = Order::new(alloc);
+    if let Verdict::Linearizable(order) = verdict {
+        for i in 0..order.len() {
+            copy.push(order.at(i))?;
+        }
     }
+    Ok(copy)
 }
 
 impl<'a> Picture<'a> {
@@ -352,30 +362,30 @@ impl<'a> Picture<'a> {
         let kinds = recording.kinds();
         let events = found.events();
         let evidence = match found.refusal() {
-            Some(refusal) => Some(evidence_of(alloc, kinds, events, refusal)?),
+            Some(refusal) => Some(evidence_of(alloc, kinds, &events, refusal)?),
             None => None,
         };
         let usual = usual_from(&evidence, events.len());
         let window = window_of(view, events.len(), usual);
         let choice = Selection::of(alloc, heading, view)?;
-        let bars = bars_of(alloc, events)?;
-        let order = order_of(&found.judged.verdict);
+        let bars = bars_of(alloc, &events)?;
+        let order = order_of(alloc, &found.judged.verdict)?;
         Ok(Picture {
             heading,
             lines: found.lines(alloc)?,
             lists: recording.lists(),
             kinds,
-            events,
             shown: shown_bars(alloc, &bars, &choice, window)?,
             bars,
+            points: points_of(alloc, &events, &order)?,
+            xs: point_xs(alloc, Grid::new(window), &order)?,
             order,
-            points: points_of(alloc, events, order)?,
-            xs: point_xs(alloc, Grid::new(window), order)?,
             evidence,
             choice,
             grid: Grid::new(window),
             first_line: found.first_line(),
-            is_single: has_one_object(events, kinds),
+            is_single: has_one_object(&events, kinds),
+            events,
             note,
         })
     }

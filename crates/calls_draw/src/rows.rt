@@ -201,7 +201,8 @@ pub(crate) fn put_rows(alloc: Global, out: &mut Pen<'_>, picture: &Picture<'_>) 
 
 /// Puts the marks at the linearization points of the calls that are drawn.
 pub(crate) fn put_marks(out: &mut Pen<'_>, picture: &Picture<'_>) {
-    for (i, placed) in picture.order.iter().enumerate() {
+    for i in 0..picture.order.len() {
+        let placed = picture.order.at(i);
         let call = &placed.call;
         let is_shown = picture.window().has_point(placed.point)
             && picture.choice.has(call.worker, call.object, call.op);

@@ -172,7 +172,7 @@ fn put_accepted(out: &mut Pen<'_>, picture: &Picture<'_>, panel: &Panel, scale: 
     if matches!(panel.subject, Subject::Numbers(_)) {
         put_levels(out, picture, scale, panel);
     }
-    if !picture.order.is_empty() {
+    if picture.order.len() > 0 {
         put_curve(out, picture, scale, panel);
         put_seen(out, scale, panel);
         put_items(out, picture, scale, panel);
@@ -199,7 +199,7 @@ fn put_panel(out: &mut Pen<'_>, picture: &Picture<'_>, panel: &Panel, top: u64) 
     match (panel.subject, evidence_in(picture, panel)) {
         (_, Some(evidence)) if evidence.has_lanes() => put_lanes(out, picture, evidence, top),
         (Subject::Values(_), _) => {
-            if !picture.order.is_empty() {
+            if picture.order.len() > 0 {
                 put_values(out, picture, panel, top);
             }
         }

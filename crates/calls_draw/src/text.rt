@@ -189,7 +189,7 @@ fn put_panel_rows(
     let most: Vec<usize> = panel.bounds.iter().map(|it| it.most).collect(alloc)?;
     put_subject(out, picture, panel.subject);
     out.put(b"\n");
-    if !picture.order.is_empty() {
+    if picture.order.len() > 0 {
         out.put(b"count");
         put_numbers(out, picture, panel, width);
     }
@@ -235,7 +235,7 @@ fn put_panels(
     for panel in &panels {
         if !matches!(panel.subject, Subject::Values(_)) {
             put_panel_rows(alloc, out, picture, panel, width)?;
-        } else if !picture.order.is_empty() {
+        } else if picture.order.len() > 0 {
             put_values(out, picture, panel);
         }
     }

@@ -1,5 +1,3 @@
-pub mod Merges
-pub mod Stable
 pub mod Objects
 pub mod Points
 pub mod Parts

@@ -19,7 +19,7 @@ use Rattle.calls_core.specs.Points.{Within, by_points, calls_of, IsPlacedOrder, 
 use Rattle.calls_core.proofs.Filters.{filter_yes, filter_no, permutation_filter, filter_map_of}
 use Rattle.calls_core.proofs.Filters.{permutation_by_parts}
 use Rattle.calls_core.proofs.Lists.{each_pair_map, all_pairs_from_each}
-use Rattle.calls_local.proofs.Merges.{rising_keeps, each_by_points, by_points_rise, by_points_part}
+use Rattle.calls_core.proofs.Merges.{rising_keeps, each_by_points, by_points_rise, by_points_part}
 
 -- LEGAL SEQUENTIAL HISTORIES
 

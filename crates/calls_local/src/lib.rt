@@ -3,7 +3,6 @@
 #![tactic(auto)]
 
 mod laws;
-mod placing;
 
 pub use laws::{
     a_part_is_a_history, a_prefix_is_linearizable, answers_become_responses,
@@ -12,4 +11,3 @@ pub use laws::{
     parts_are_linearized, parts_make_whole, placed_parts_make_whole, points_keep_the_order,
     responses_become_answers,
 };
-pub use placing::merge;

@@ -108,13 +108,12 @@ module _ (kinds : List Kind) (spsc : List ℕ) (events : List Event)
       subst (λ zs. IsLinearizable kinds (reverse zs)) (take_all i events le)
       (linearizable_now kinds spsc (past_at i events) m (history_past i) w)
 
-  module _ (i : ℕ) (d : Event) (lt : i < length events) (old new : Monitor)
-      (w : Watches kinds spsc (past_at i events) old) where
-    abbrev x : Event
-    x = get_or events i d
-
+  module _ (i : ℕ) (x : Event) (lt : i < length events) (read : x ≡ get_or events i x)
+      (old new : Monitor) (w : Watches kinds spsc (past_at i events) old) where
     next : past_at (i + 1) events ≡ x ∷ past_at i events
-    next = ap reverse (take_more events i d lt) ∙ reverse-append (take i events) (x ∷ [])
+    next = ap reverse (take_more events i x lt)
+        ∙ reverse-append (take i events) (get_or events i x ∷ [])
+        ∙ ap (λ y. y ∷ past_at i events) (sym read)
 
     history_next : IsHistory kinds (x ∷ past_at i events)
     history_next = subst (IsHistory kinds) next (history_past (i + 1))

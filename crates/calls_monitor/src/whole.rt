@@ -5,7 +5,7 @@ ghost use Rattle.calls_monitor.specs.Monitors.{IsWatchedTo};
 ghost use Rattle.calls_monitor.specs.Watched.{AreSpsc};
 
 use crate::{Monitor, Rejection};
-use calls_core::{Event, Kind};
+use calls_core::{Events, Kind};
 use std::alloc::{AllocError, Global};
 
 /// The first event that a monitor doesn't accept.
@@ -25,15 +25,15 @@ pub fn watch(
     alloc: Global,
     kinds: &[Kind],
     spsc: &[usize],
-    events: &[Event],
+    events: &Events,
 ) -> Result<Option<Stop>, AllocError>
     requires history { IsHistory kinds.now (reverse events.now) }
     requires spsc { AreSpsc spsc.now (reverse events.now) }
     ensures { IfOk result (IsWatchedTo kinds.now spsc.now events.now) }
 {
     let mut monitor = Monitor::open(alloc, kinds, spsc)?;
-    for (index, event) in events.iter().enumerate() {
-        if let Err(rejection) = monitor.event(*event) {
+    for index in 0..events.len() {
+        if let Err(rejection) = monitor.event(events.at(index)) {
             return Ok(Some(Stop { index, rejection }));
         }
     }

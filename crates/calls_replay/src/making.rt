@@ -9,7 +9,7 @@ ghost use Rattle.calls_kernel.specs.Made as made;
 ghost use Rattle.calls_replay.specs.Made.{made_of, is_made};
 ghost use Rattle.calls_replay.specs.kept.Going.{AreMadeIn, IsFree, Goes};
 
-use calls_core::{Call, Op, Placed};
+use calls_core::{Call, Op, Order};
 use calls_text::{first_cell, first_sequencer};
 use ec_core::{Act, Reply, Run, StepFault};
 use ec_count::{CellId, EventId, SeqId, WorkerId};
@@ -178,7 +178,7 @@ fn make_next(
 ///
 /// The kernel has the declarations of the header. Calls that timed out, and pending tickets past
 /// the limit, are left out.
-pub fn replay(alloc: Global, heading: &Heading, order: &[Placed]) -> Result<Run, Stop>
+pub fn replay(alloc: Global, heading: &Heading, order: &Order) -> Result<Run, Stop>
     ensures setup { IfOk result (λ run. run.setup ≡ heading.now.setup) }
     ensures made { IfOk result (λ run. AreMadeIn heading.now.setup
         (made_of heading.now.setup.limit order.now) (reverse run.entries)) }
@@ -188,7 +188,7 @@ pub fn replay(alloc: Global, heading: &Heading, order: &[Placed]) -> Result<Run,
     };
     let limit = heading.setup().limit().get();
     for index in 0..order.len() {
-        make_next(&mut run, heading, limit, &order[index].call, index)?;
+        make_next(&mut run, heading, limit, &order.at(index).call, index)?;
     }
     Ok(run)
 }

@@ -3,11 +3,12 @@ ghost use Rattle.std.specs.Prelude.{◌≡◌, ◌++◌, codes, decimal, IfSome}
 ghost use Rattle.std.specs.Option.{IfNone};
 ghost use Rattle.ec_text.specs.Puts.{Puts, IsWrittenOut};
 ghost use Rattle.calls_replay.specs.Obstacles.{HasZeros, IsPlain, IsFirstBegun, IsObstacle, line_of};
-ghost use Rattle.calls_replay.specs.Obstacles.{first_of_group, obstacle_note};
+ghost use Rattle.calls_replay.specs.Obstacles.{is_group_action, first_of_group, obstacle_note};
 
 use calls_core::Action;
 use calls_text::{Read, Recording, first_group};
 use ec_count::EventId;
+use ec_heading::Heading;
 use ec_text::Output;
 use ec_trace::Spellings;
 use std::io::Write;
@@ -40,18 +41,27 @@ fn first_begun(recording: &Recording) -> Option<EventId>
     None
 }
 
+/// Returns whether an action invokes a call of a semaphore, a database or a buffer.
+fn is_group_action(heading: &Heading, action: Action) -> bool
+    ensures { result ≡ is_group_action heading.now action }
+{
+    match action {
+        Action::Invoke(object, _) => object >= first_group(heading) - 1,
+        Action::Respond(_) => false,
+    }
+}
+
 /// Returns the position of the first call of a semaphore, a database or a buffer.
 fn first_of_group(recording: &Recording) -> Option<usize>
     ensures { result ≡ first_of_group recording.now }
 {
-    let semaphores = first_group(recording.heading()) - 1;
-    recording
-        .events()
-        .iter()
-        .position(|event| match event.action {
-            Action::Invoke(object, _) => object >= semaphores,
-            Action::Respond(_) => false,
-        })
+    let events = recording.events();
+    for i in 0..events.len() {
+        if is_group_action(recording.heading(), events.at(i).action) {
+            return Some(i);
+        }
+    }
+    None
 }
 
 /// Returns why a history has no trace of steps.

@@ -9,7 +9,7 @@ ghost use Rattle.calls_replay.specs.kept.Ends.{WritesSteps, ReplaysRead, Replays
 
 use crate::making::{Stop, is_made, replay};
 use crate::obstacle::{find_obstacle, report_obstacle};
-use calls_core::{Action, Event, Placed};
+use calls_core::{Action, Events, Order};
 use calls_report::{Status, TEXT_MAX, linearize, note_unread};
 use calls_text::{Read as OneRead, read_history, read_is_spelled};
 use ec_text::{Input, Output, read_up_to};
@@ -18,27 +18,33 @@ use std::alloc::Global;
 use std::io::{Read, Write};
 
 /// Returns how many calls were invoked.
-fn count_invoked(events: &[Event]) -> usize
+fn count_invoked(events: &Events) -> usize
     ensures { result ≡ count_by (λ e. is_invocation e.action) events.now }
 {
-    events
-        .iter()
-        .filter(|event| matches!(event.action, Action::Invoke(_, _)))
-        .count()
+    let mut count = 0;
+    for i in 0..events.len() {
+        if matches!(events.at(i).action, Action::Invoke(_, _)) {
+            count += 1;
+        }
+    }
+    count
 }
 
 /// Returns how many calls of an order are made.
-fn count_made(limit: u64, order: &[Placed]) -> usize
+fn count_made(limit: u64, order: &Order) -> usize
     ensures { result ≡ count_by (λ p. is_made limit p.call) order.now }
 {
-    order
-        .iter()
-        .filter(|placed| is_made(limit, &placed.call))
-        .count()
+    let mut count = 0;
+    for i in 0..order.len() {
+        if is_made(limit, &order.at(i).call) {
+            count += 1;
+        }
+    }
+    count
 }
 
 /// Returns how many calls leave no step: they timed out, or are pending.
-fn left_out(read: &OneRead<'_>, order: &[Placed]) -> usize
+fn left_out(read: &OneRead<'_>, order: &Order) -> usize
     ensures { result ≡ left_out read.now.recording order.now }
 {
     let limit = read.recording.heading().setup().limit().get();
@@ -76,7 +82,7 @@ fn report_difference<N: Write>(notes: &mut Output<'_, N>, index: usize)
 fn write_steps<W: Write, N: Write>(
     alloc: Global,
     read: &OneRead<'_>,
-    order: &[Placed],
+    order: &Order,
     out: &mut W,
     notes: &mut Output<'_, N>,
 ) -> Status

@@ -1,7 +1,7 @@
 -- How histories are judged, one after another.
 use Rattle.std.proofs.Common.{◌≡◌, ◌<◌, ◌≤◌, inl, inr, ℕ, ◌+◌, List, [], ◌∷◌, ◌++◌, Result, Ok, Err}
 use Rattle.std.proofs.Common.{Bool, true, false, cond, eqb, if◌then◌else◌, refl, ap, sym, ◌∙◌, subst, arith}
-use Rattle.std.proofs.Common.{codes}
+use Rattle.std.proofs.Common.{codes, ◌==◌}
 use Rattle.std.proofs.Common.{append-nil, length}
 use Rattle.std.specs.List.{onto_first}
 use Rattle.std.proofs.lemmas.List.Concat.{flat_map-append}
@@ -27,7 +27,7 @@ use Rattle.calls_report.specs.Remarks.{remarks_text}
 use Rattle.calls_report.specs.Checks.{JudgedHistory, HasOrder, AreJudged, texts_of, remarks_on}
 use Rattle.calls_report.specs.Checks.{history_text, IsNoEnd, Ends}
 use Rattle.calls_report.specs.kept.Judging.{PutsOrder, StopsBy, status_by, EndsBy, fault_status}
-use Rattle.calls_report.specs.kept.Judging.{Judges, IsJudgedSoFar}
+use Rattle.calls_report.specs.kept.Judging.{Judges, IsJudgedSoFar, JudgesOne, IsLast}
 use Rattle.calls_text.proofs.TextParts.{by_rest, by_line}
 
 pub same_lines : (a b : OutputModel) (h k : HeadingModel) (ls ms : List (List ℕ)) (n m : ℕ)
@@ -259,6 +259,31 @@ judges_all text n rest old new before after so past none =
     ended statuses.Done text n rest old new before after after so
     (past, ap lines_of_text none, refl)
 
+-- the last history of a text, after the others
+pub judges_last : (text : List ℕ) (n : ℕ) (rest : List ℕ) (old mid before among : OutputModel)
+    (r : RecordingModel) (m : ℕ) (more : List ℕ) → IsJudgedSoFar text n rest old mid before among
+    → 1 ≤ n
+    → parse_from n Opening (lines_of_text rest)
+    ≡ Ok (record { recorded = r; number = m; rest = lines_of_text more }) → more ≡ []
+    → IsLast text m r old mid before among
+judges_last text n rest old mid before among r m more so first reads none status new after (inl d) =
+    let o : OneRead = record { recorded = r; number = m; rest = lines_of_text more } in
+    let past : n + 1 ≤ m = goes_past n (lines_of_text rest) o reads in
+    subst (λ (s : Status). Judges s text old new before after) (sym d.0)
+    (judges_all text m more old new before after
+    (so_far_more text n rest old mid new before among after r m more so reads d.1 d.2)
+    (omega (arith, past, first)) none)
+judges_last text n rest old mid before among r m more so first reads none status new after (inr e) =
+    let o : OneRead = record { recorded = r; number = m; rest = lines_of_text more } in
+    subst (λ (s : Status). Judges s text old new before after) (sym e.2)
+    (judges_stopped text n rest old new before among e.1 after o e.0
+    (subst (λ (k : OutputModel). IsJudgedSoFar text n rest old k before among) (sym e.3) so)
+    reads e.4 e.5)
+
 pub nothing : (xs : List ℕ) → length xs ≡ 0 → xs ≡ []
 nothing [] none = refl
 nothing (x ∷ xs) none = absurd (omega (arith, none))
+
+pub something : (xs : List ℕ) → (length xs == 0) ≡ false → 0 < length xs
+something [] none = absurd (cc)
+something (x ∷ xs) none = omega arith

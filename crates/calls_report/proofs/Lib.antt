@@ -1,3 +1,4 @@
+pub mod Passing
 pub mod Loops
 mod SureLemmas
 mod SumLemmas

@@ -23,6 +23,13 @@ puts_more f xs i d a b c lt before now =
     subst (Puts a c) (sym (flat_more f xs i d lt))
     (puts_then a b c (flat_map f (take i xs)) (f (get_or xs i d)) before now)
 
+-- the same, with the element that an index gives
+pub puts_read : {A : Type 0} (f : A → List ℕ) (xs : List A) (i : ℕ) (x : A) (a b c : OutputModel)
+    → i < length xs → x ≡ get_or xs i x → Puts a b (flat_map f (take i xs)) → Puts b c (f x)
+    → Puts a c (flat_map f (take (i + 1) xs))
+puts_read f xs i x a b c lt read before now =
+    puts_more f xs i x a b c lt before (subst (λ y. Puts b c (f y)) read now)
+
 -- ZEROS
 
 zeros_end : (n : ℕ) → replicate {A = ℕ} (suc n) 0 ≡ replicate {A = ℕ} n 0 ++ 0 ∷ []

@@ -3,12 +3,12 @@ ghost use Rattle.std.specs.Prelude.{◌≡◌, IfOk};
 ghost use Rattle.calls_tickets.specs.Faults.{number};
 ghost use Rattle.calls_report.specs.Certificates.{advances_between, start_at, count_certificate};
 ghost use Rattle.calls_report.specs.Certificates.{ticket_certificate, units_of, unit_certificate};
-ghost use Rattle.calls_report.specs.Certificates.{IsValueCertificate, IsCertificate};
+ghost use Rattle.calls_report.specs.Certificates.{events_upto, IsValueCertificate, IsCertificate};
 
 use crate::counting::{
     CountFilter, count_advances, count_completed, count_pending_tickets, count_v_calls,
 };
-use calls_core::{Call, Event, Reply};
+use calls_core::{Call, Events, Part, Reply};
 use calls_text::Recording;
 use calls_verdict::{Fault, Refusal};
 use ec_count::EventId;
@@ -75,7 +75,7 @@ pub enum Certificate<'a> {
 /// Returns how many advances of an object lie between two positions.
 fn advances_between(
     alloc: Global,
-    events: &[Event],
+    events: &Part<'_>,
     object: usize,
     from: usize,
     before: usize,
@@ -99,7 +99,7 @@ pub fn start_at(recording: &Recording, object: usize) -> u64
 fn of_many<'a>(
     alloc: Global,
     recording: &Recording,
-    events: &[Event],
+    events: &Part<'_>,
     object: usize,
     call: Call,
 ) -> Result<Certificate<'a>, AllocError>
@@ -114,7 +114,7 @@ fn of_many<'a>(
 fn of_count<'a>(
     alloc: Global,
     recording: &Recording,
-    events: &[Event],
+    events: &Part<'_>,
     object: usize,
     fault: &calls_counts::Fault,
 ) -> Result<Certificate<'a>, AllocError>
@@ -150,7 +150,7 @@ pub(crate) fn ticket_number(call: &Call) -> usize
 /// Returns the certificate of a fault of a sequencer.
 fn of_ticket<'a>(
     alloc: Global,
-    events: &[Event],
+    events: &Part<'_>,
     object: usize,
     fault: &calls_tickets::Fault,
 ) -> Result<Certificate<'a>, AllocError>
@@ -185,7 +185,7 @@ fn units_of(heading: &Heading, place: usize) -> u64
 fn of_units<'a>(
     alloc: Global,
     heading: &Heading,
-    events: &[Event],
+    events: &Part<'_>,
     fault: &calls_semaphores::Fault,
 ) -> Result<Certificate<'a>, AllocError>
     ensures { IfOk result (λ c. c ≡ unit_certificate heading.now events.now fault.now) }
@@ -213,6 +213,17 @@ fn of_value<'a>(fault: &'a calls_cells::Fault) -> Certificate<'a>
     }
 }
 
+/// Returns the events up to a position.
+fn events_upto<'h>(events: &'h Events, at: usize) -> Part<'h>
+    ensures { result ≡ events_upto at events.now }
+{
+    if at < events.len() {
+        Part::prefix(events, at + 1)
+    } else {
+        Part::whole(events)
+    }
+}
+
 /// Returns the certificate of a fault, by the events up to it.
 pub(crate) fn certify<'a>(
     alloc: Global,
@@ -221,13 +232,12 @@ pub(crate) fn certify<'a>(
 ) -> Result<Certificate<'a>, AllocError>
     ensures { IfOk result (IsCertificate recording.now refusal.now) }
 {
-    let all = recording.events();
-    let events = all.get(..refusal.at.saturating_add(1)).unwrap_or(all);
+    let events = events_upto(recording.events(), refusal.at);
     let object = refusal.object;
     match &refusal.fault {
-        Fault::Count(fault) => of_count(alloc, recording, events, object, fault),
-        Fault::Ticket(fault) => of_ticket(alloc, events, object, fault),
-        Fault::Units(fault) => of_units(alloc, recording.heading(), events, fault),
+        Fault::Count(fault) => of_count(alloc, recording, &events, object, fault),
+        Fault::Ticket(fault) => of_ticket(alloc, &events, object, fault),
+        Fault::Units(fault) => of_units(alloc, recording.heading(), &events, fault),
         Fault::Value(fault) => Ok(of_value(fault)),
         Fault::Items(fault) => Ok(Certificate::Items(fault)),
     }

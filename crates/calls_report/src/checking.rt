@@ -1,5 +1,6 @@
 //! `check`: reads histories of calls, and writes a linearization of each.
-ghost use Rattle.std.specs.Prelude.{◌≡◌, ◌≤◌, IfSome, IsSome, IfOk, OnOk, OnErr, IfErr, length};
+ghost use Rattle.std.specs.Prelude.{◌≡◌, ◌<◌, ◌≤◌, ◌↔◌, IsTrue, IfSome, IsSome, IfOk, OnOk, OnErr};
+ghost use Rattle.std.specs.Prelude.{IfErr, length};
 ghost use Rattle.ec_text.specs.Puts.{Puts, IsWrittenOut};
 ghost use Rattle.calls_report.specs.declared.status.Status.TheVariants.{Done};
 ghost use Rattle.calls_report.specs.Notes.{fault_note};
@@ -9,7 +10,7 @@ ghost use Rattle.calls_report.specs.Checks.{Checks};
 ghost use Rattle.calls_report.specs.Stops.{StopsAs};
 ghost use Rattle.calls_report.specs.kept.Sums.{AreSums};
 ghost use Rattle.calls_report.specs.kept.Judging.{PutsOrder, StopsBy, status_by, EndsBy};
-ghost use Rattle.calls_report.specs.kept.Judging.{fault_status, Judges};
+ghost use Rattle.calls_report.specs.kept.Judging.{fault_status, Judges, JudgesOne, IsLast};
 
 use crate::notes::{report_fault, report_refusal, report_undecided};
 use crate::order::put_order;
@@ -18,7 +19,7 @@ use crate::status::Status;
 use crate::sums::Sums;
 use crate::totals::Totals;
 use crate::words::Speaker;
-use calls_core::Placed;
+use calls_core::Order;
 use calls_text::{Read as OneRead, Recording, TextFault, read_history};
 use calls_verdict::{Verdict, decide};
 use ec_text::{Input, Output, read_up_to};
@@ -42,6 +43,16 @@ pub struct LastHistory<'a> {
     pub verdict: Verdict,
 }
 
+/// A history that was read, and is not judged yet.
+#[derive(Drop)]
+struct UnjudgedHistory<'a> {
+    /// The text from the history's first line on.
+    text: &'a [u8],
+    /// The number of that line.
+    number: u64,
+    read: OneRead<'a>,
+}
+
 /// Why no linearization of a history is put.
 #[derive(Clone, Copy, Debug, PartialEq, Eq)]
 pub(crate) enum Stop {
@@ -54,7 +65,7 @@ pub(crate) enum Stop {
 }
 
 /// Puts the output for a linearizable history: a linearization, and the totals.
-fn put_text<W: Write>(out: &mut Output<'_, W>, recording: &Recording, order: &[Placed], sums: &Sums)
+fn put_text<W: Write>(out: &mut Output<'_, W>, recording: &Recording, order: &Order, sums: &Sums)
     requires { AreSums order.now sums.now }
     ensures { Puts out.old out.new (history_text recording.now order.now) }
 {
@@ -75,13 +86,15 @@ fn find_order<N: Write>(
     read: &OneRead<'_>,
     kept: &mut Option<Verdict>,
     notes: &mut Output<'_, N>,
-) -> Result<Vec<Placed>, Stop>
-    ensures ok { IfOk result (λ order. HasOrder read.now.recording order.items) }
+) -> Result<Order, Stop>
+    ensures ok { IfOk result (λ order. HasOrder read.now.recording order) }
     ensures quiet { OnOk result (notes.new ≡ notes.old) }
     ensures stop { IfErr result (StopsBy read.now.number read.now.recording notes.old notes.new) }
     ensures written { IsWrittenOut notes.old → IsWrittenOut notes.new }
 {
     let recording = &read.recording;
+    // (there are no more events than a `usize` can say)
+    let _count = recording.events().len();
     let Ok(verdict) = decide(alloc, recording.kinds(), recording.events()) else {
         return Err(Stop::Memory);
     };
@@ -158,8 +171,8 @@ pub fn linearize<N: Write>(
     alloc: Global,
     read: &OneRead<'_>,
     notes: &mut Output<'_, N>,
-) -> Result<Vec<Placed>, Status>
-    ensures ok { IfOk result (λ order. HasOrder read.now.recording order.items) }
+) -> Result<Order, Status>
+    ensures ok { IfOk result (λ order. HasOrder read.now.recording order) }
     ensures quiet { OnOk result (notes.new ≡ notes.old) }
     ensures stop { IfErr result
         (StopsAs read.now.number read.now.recording notes.old notes.new) }
@@ -202,6 +215,71 @@ fn judged<'a>(
     })
 }
 
+/// Judges a history that is the last one of its text, and returns the status.
+///
+/// `kept` gets the verdict.
+fn judge_last<W: Write, N: Write>(
+    alloc: Global,
+    read: &OneRead<'_>,
+    kept: &mut Option<Verdict>,
+    out: &mut Output<'_, W>,
+    notes: &mut Output<'_, N>,
+) -> Status
+    ensures judges { JudgesOne result read.now.number read.now.recording out.old out.new notes.old
+        notes.new }
+    ensures kept { result ≡ Done → IsSome kept.new }
+    ensures written { IsWrittenOut notes.old → IsWrittenOut notes.new }
+{
+    match judge(alloc, read, kept, out, notes) {
+        Ok(()) => Status::Done,
+        Err(stop) => end_by(stop, notes),
+    }
+}
+
+/// Judges the histories of a text before its last one, up to the first that is faulty, not
+/// linearizable or not decided, and returns the last one.
+///
+/// If it ends before, it returns the status, and `last` gets the history at which it ends, if that
+/// was read and has a verdict.
+fn judge_earlier<'a, W: Write, N: Write>(
+    alloc: Global,
+    text: &'a [u8],
+    last: &mut Option<LastHistory<'a>>,
+    out: &mut Output<'_, W>,
+    notes: &mut Output<'_, N>,
+) -> Result<UnjudgedHistory<'a>, Status>
+    requires { length text.now ≤ TEXT_MAX }
+    ensures last { IfOk result (λ h. IsLast text.now h.read.number h.read.recording out.old out.new
+        notes.old notes.new) }
+    ensures judges { IfErr result (λ status. Judges status text.now out.old out.new notes.old
+        notes.new) }
+    ensures stops { IfErr result (λ status. status ≡ Done → ⊥) }
+    ensures written { IsWrittenOut notes.old → IsWrittenOut notes.new }
+{
+    let mut number = 1;
+    let mut rest = text;
+    loop {
+        let read = match read_history(alloc, rest, number) {
+            Ok(read) => read,
+            Err(fault) => return Err(note_unread(fault, notes)),
+        };
+        if read.rest.is_empty() {
+            return Ok(UnjudgedHistory {
+                text: rest,
+                number,
+                read,
+            });
+        }
+        let mut verdict = None;
+        if let Err(stop) = judge(alloc, &read, &mut verdict, out, notes) {
+            *last = judged(rest, number, read, verdict);
+            return Err(end_by(stop, notes));
+        }
+        number = read.number;
+        rest = read.rest;
+    }
+}
+
 /// Judges the histories of a text, up to the first that is faulty, not linearizable or not decided.
 ///
 /// `last` gets the history at which this ends, if it was read and has a verdict.
@@ -217,24 +295,64 @@ fn judge_all<'a, W: Write, N: Write>(
     ensures kept { result ≡ Done → IsSome last.new }
     ensures written { IsWrittenOut notes.old → IsWrittenOut notes.new }
 {
-    let mut number = 1;
-    let mut rest = text;
-    loop {
-        let read = match read_history(alloc, rest, number) {
-            Ok(read) => read,
-            Err(fault) => return note_unread(fault, notes),
-        };
-        let mut verdict = None;
-        if let Err(stop) = judge(alloc, &read, &mut verdict, out, notes) {
-            *last = judged(rest, number, read, verdict);
-            return end_by(stop, notes);
-        }
-        if read.rest.is_empty() {
-            *last = judged(rest, number, read, verdict);
-            return Status::Done;
-        }
-        number = read.number;
-        rest = read.rest;
+    let history = match judge_earlier(alloc, text, last, out, notes) {
+        Ok(history) => history,
+        Err(status) => return status,
+    };
+    let mut verdict = None;
+    let status = judge_last(alloc, &history.read, &mut verdict, out, notes);
+    *last = judged(history.text, history.number, history.read, verdict);
+    status
+}
+
+/// Judges the histories of a text before its last one, and returns that one without the text, which
+/// it frees.
+fn judge_and_free<W: Write, N: Write>(
+    alloc: Global,
+    text: Vec<u8>,
+    out: &mut Output<'_, W>,
+    notes: &mut Output<'_, N>,
+) -> Result<OneRead<'static>, Status>
+    requires { length text.items ≤ TEXT_MAX }
+    ensures last { IfOk result (λ read. IsLast text.items read.number read.recording out.old out.new
+        notes.old notes.new) }
+    ensures judges { IfErr result (λ status. Judges status text.items out.old out.new notes.old
+        notes.new) }
+    ensures written { IsWrittenOut notes.old → IsWrittenOut notes.new }
+{
+    match judge_earlier(alloc, text.as_slice(), &mut None, out, notes) {
+        Ok(
+            UnjudgedHistory {
+                read: OneRead {
+                    recording,
+                    number,
+                    ..
+                },
+                ..
+            },
+        ) => Ok(OneRead {
+            recording,
+            number,
+            rest: b"",
+        }),
+        Err(status) => Err(status),
+    }
+}
+
+/// Judges the histories of a text, which is freed before the last one is judged.
+fn judge_freely<W: Write, N: Write>(
+    alloc: Global,
+    text: Vec<u8>,
+    out: &mut Output<'_, W>,
+    notes: &mut Output<'_, N>,
+) -> Status
+    requires { length text.items ≤ TEXT_MAX }
+    ensures judges { Judges result text.items out.old out.new notes.old notes.new }
+    ensures written { IsWrittenOut notes.old → IsWrittenOut notes.new }
+{
+    match judge_and_free(alloc, text, out, notes) {
+        Ok(read) => judge_last(alloc, &read, &mut None, out, notes),
+        Err(status) => status,
     }
 }
 
@@ -268,6 +386,13 @@ fn check_text<'a, W: Write, N: Write>(
     }
 }
 
+/// Returns whether a text is too large.
+fn is_too_large(text: &[u8]) -> bool
+    ensures { IsTrue result ↔ (TEXT_MAX < length text.now) }
+{
+    text.len() > TEXT_MAX
+}
+
 /// Checks a text that is given at once.
 ///
 /// `last` gets the history at which this ends, if it was read and has a verdict: of a good text its
@@ -285,11 +410,40 @@ pub fn check_whole<'a, W: Write, N: Write>(
     ensures kept { result ≡ Done → IsSome last.new }
     ensures written { IsWrittenOut notes.old → IsWrittenOut notes.new }
 {
-    if text.len() > TEXT_MAX {
+    if is_too_large(text) {
         notes.say(b"too large\n");
         return Status::Refused;
     }
     check_text(alloc, text, last, out, notes)
+}
+
+/// Checks a text, which is freed before its last history is judged.
+fn check_freely<W: Write, N: Write>(
+    alloc: Global,
+    text: Vec<u8>,
+    out: &mut W,
+    notes: &mut Output<'_, N>,
+) -> Status
+    ensures checks { ChecksWhole result text.items
+        (record { out = W.contents out.old; notes = notes.old })
+        (record { out = W.contents out.new; notes = notes.new }) }
+    ensures written { IsWrittenOut notes.old → IsWrittenOut notes.new }
+{
+    if is_too_large(text.as_slice()) {
+        notes.say(b"too large\n");
+        return Status::Refused;
+    }
+    let mut texts = Output::new(out);
+    let status = judge_freely(alloc, text, &mut texts, notes);
+    let done = texts.finish();
+    texts.into_writer();
+    match done {
+        Ok(()) => status,
+        Err(_) => {
+            notes.say(b"write fault\n");
+            Status::InputOutput
+        }
+    }
 }
 
 /// Reads histories of calls, and writes a linearization of each.
@@ -313,7 +467,7 @@ pub fn check<R: Read, W: Write, N: Write>(
     ensures written { IsWrittenOut notes.old → IsWrittenOut notes.new }
 {
     match read_up_to(alloc, reader, TEXT_MAX) {
-        Ok(Input::Whole(text)) => check_whole(alloc, text.as_slice(), &mut None, out, notes),
+        Ok(Input::Whole(text)) => check_freely(alloc, text, out, notes),
         Ok(Input::CutOff(_)) => {
             notes.say(b"read fault\n");
             Status::InputOutput

@@ -6,7 +6,7 @@ ghost use Rattle.calls_core.specs.Histories.{completed_calls, pending_calls};
 ghost use Rattle.calls_report.specs.Counting.{is_counted, is_counted_pending, is_advance_of};
 ghost use Rattle.calls_report.specs.Counting.{is_v_of};
 
-use calls_core::{Action, Call, Event, Op, PendingCall, Reply};
+use calls_core::{Action, Call, Event, Op, Part, PendingCall, Reply};
 use calls_verdict::{find, follow};
 use std::alloc::{AllocError, Global};
 
@@ -88,7 +88,7 @@ fn count_one(counted: CountFilter, call: Option<Call>) -> usize
 /// Returns how many of the completed calls are counted.
 pub(crate) fn count_completed(
     alloc: Global,
-    events: &[Event],
+    events: &Part<'_>,
     counted: CountFilter,
 ) -> Result<usize, AllocError>
     ensures { IfOk result (λ n. n ≡ count_by (is_counted counted)
@@ -96,9 +96,10 @@ pub(crate) fn count_completed(
 {
     let mut pending = Vec::new(alloc);
     let mut count = 0;
-    for event in events {
-        count += count_one(counted, completed_call(&pending, event));
-        let _object = follow(&mut pending, event)?;
+    for i in 0..events.len() {
+        let event = events.at(i);
+        count += count_one(counted, completed_call(&pending, &event));
+        let _object = follow(&mut pending, &event)?;
     }
     Ok(count)
 }
@@ -114,12 +115,15 @@ fn count_pending(pending: &[PendingCall], object: usize, upto: usize) -> usize
 }
 
 /// Returns the calls that are pending after these events, in the order of their invocations.
-pub(crate) fn pending_after(alloc: Global, events: &[Event]) -> Result<Vec<PendingCall>, AllocError>
+pub(crate) fn pending_after(
+    alloc: Global,
+    events: &Part<'_>,
+) -> Result<Vec<PendingCall>, AllocError>
     ensures { IfOk result (λ calls. calls.items ≡ pending_calls (reverse events.now)) }
 {
     let mut pending = Vec::new(alloc);
-    for event in events {
-        let _object = follow(&mut pending, event)?;
+    for i in 0..events.len() {
+        let _object = follow(&mut pending, &events.at(i))?;
     }
     Ok(pending)
 }
@@ -127,7 +131,7 @@ pub(crate) fn pending_after(alloc: Global, events: &[Event]) -> Result<Vec<Pendi
 /// Returns how many tickets of an object are pending that were invoked up to a position.
 pub(crate) fn count_pending_tickets(
     alloc: Global,
-    events: &[Event],
+    events: &Part<'_>,
     object: usize,
     upto: usize,
 ) -> Result<usize, AllocError>
@@ -149,24 +153,37 @@ pub(crate) fn is_advance_of(event: &Event, object: usize) -> bool
 }
 
 /// Returns how many advances of an object were invoked.
-pub(crate) fn count_advances(events: &[Event], object: usize) -> usize
+pub(crate) fn count_advances(events: &Part<'_>, object: usize) -> usize
     ensures { result ≡ count_by (is_advance_of object) events.now }
 {
-    events
-        .iter()
-        .filter(|event| is_advance_of(event, object))
-        .count()
+    let mut count = 0;
+    for i in 0..events.len() {
+        if is_advance_of(&events.at(i), object) {
+            count += 1;
+        }
+    }
+    count
+}
+
+/// Returns whether an event invokes a `v` of a semaphore.
+fn is_v_of(event: &Event, place: usize) -> bool
+    ensures { result ≡ is_v_of place event.now }
+{
+    match event.action {
+        Action::Invoke(_, Op::V(i)) => i == place,
+        _ => false,
+    }
 }
 
 /// Returns how many `v` of a semaphore were invoked. `place` is its index among the groups.
-pub(crate) fn count_v_calls(events: &[Event], place: usize) -> usize
+pub(crate) fn count_v_calls(events: &Part<'_>, place: usize) -> usize
     ensures { result ≡ count_by (is_v_of place) events.now }
 {
-    events
-        .iter()
-        .filter(|event| match event.action {
-            Action::Invoke(_, Op::V(i)) => i == place,
-            _ => false,
-        })
-        .count()
+    let mut count = 0;
+    for i in 0..events.len() {
+        if is_v_of(&events.at(i), place) {
+            count += 1;
+        }
+    }
+    count
 }

@@ -6,7 +6,7 @@ ghost use Rattle.calls_report.specs.Orders.{head_text, tail_text, order_line, or
 ghost use Rattle.calls_report.specs.Orders.{shown_reply};
 
 use crate::words::Speaker;
-use calls_core::{Call, Placed};
+use calls_core::{Call, Order, Placed};
 use ec_text::Output;
 use std::io::Write;
 
@@ -56,11 +56,11 @@ pub fn put_order<W: Write>(
     out: &mut Output<'_, W>,
     speaker: &Speaker<'_>,
     end: usize,
-    order: &[Placed],
+    order: &Order,
 )
     ensures { Puts out.old out.new (order_lines speaker.now.heading speaker.now.lists end order.now) }
 {
-    for placed in order {
-        put_line(out, speaker, end, placed);
+    for i in 0..order.len() {
+        put_line(out, speaker, end, &order.at(i));
     }
 }

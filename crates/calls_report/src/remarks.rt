@@ -11,7 +11,7 @@ use crate::counting::pending_after;
 use crate::notes::site_of;
 use crate::refusal::Site;
 use crate::sure::sure_count;
-use calls_core::{Op, PendingCall};
+use calls_core::{Op, Part, PendingCall};
 use calls_text::{Read, Recording};
 use ec_text::Output;
 use std::alloc::{AllocError, Global};
@@ -60,7 +60,7 @@ fn remark_on(
 pub(crate) fn remarks_of(alloc: Global, recording: &Recording) -> Result<Vec<Remark>, AllocError>
     ensures { IfOk result (λ ms. ms.items ≡ remarks_of recording.now) }
 {
-    let pending = pending_after(alloc, recording.events())?;
+    let pending = pending_after(alloc, &Part::whole(recording.events()))?;
     let mut remarks = Vec::new(alloc);
     for call in &pending {
         if let Some(remark) = remark_on(alloc, recording, &pending, call)? {

@@ -5,7 +5,7 @@ ghost use Rattle.calls_report.specs.Totals.{is_effect};
 ghost use Rattle.calls_report.specs.kept.Sums.{IsSetAt, AreSums, AddsEffect, AddsUnits, AddsPair};
 ghost use Rattle.calls_report.specs.kept.Sums.{list_at, IsLonger, AddsItem};
 
-use calls_core::{Call, Op, Placed, Reply};
+use calls_core::{Call, Op, Order, Placed, Reply};
 use std::alloc::{AllocError, Global};
 
 /// The sums over a linearization. A number that is not stored is 0.
@@ -176,12 +176,12 @@ impl Sums {
     }
 
     /// Returns the sums over a linearization.
-    pub(crate) fn of(alloc: Global, order: &[Placed]) -> Result<Sums, AllocError>
+    pub(crate) fn of(alloc: Global, order: &Order) -> Result<Sums, AllocError>
         ensures { IfOk result (AreSums order.now) }
     {
         let mut sums = Sums::none(alloc);
-        for placed in order {
-            sums.add(alloc, placed)?;
+        for i in 0..order.len() {
+            sums.add(alloc, &order.at(i))?;
         }
         Ok(sums)
     }

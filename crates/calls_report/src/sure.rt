@@ -10,7 +10,7 @@ ghost use Rattle.calls_report.specs.kept.Sure.{raised_by};
 
 use crate::certificate::start_at;
 use crate::counting::{completed_call, count_advances, is_advance_of};
-use calls_core::{Call, Event, Op, PendingCall, Reply};
+use calls_core::{Call, Event, Op, Part, PendingCall, Reply};
 use calls_text::Recording;
 use calls_verdict::follow;
 use std::alloc::{AllocError, Global};
@@ -101,20 +101,21 @@ fn greatest_shown(
 {
     // (the positions ascend)
     let _kinds = recording.kinds().len();
-    let events = recording.events();
+    let events = Part::whole(recording.events());
     let mut calls = Vec::new(alloc);
-    let mut left = count_advances(events, object);
+    let mut left = count_advances(&events, object);
     let mut greatest = first;
-    for event in events {
-        left = left_after(left, event, object);
+    for i in 0..events.len() {
+        let event = events.at(i);
+        left = left_after(left, &event, object);
         greatest = max_with_call(
             greatest,
-            completed_call(&calls, event),
+            completed_call(&calls, &event),
             object,
             left,
             pending,
         )?;
-        let _object = follow(&mut calls, event)?;
+        let _object = follow(&mut calls, &event)?;
     }
     Ok(greatest)
 }
@@ -129,7 +130,7 @@ fn returned_count(
     ensures { IfOk result (λ n. n ≡ start_at recording.now object
         + returned_advances object recording.now.events) }
 {
-    let called = count_advances(recording.events(), object);
+    let called = count_advances(&Part::whole(recording.events()), object);
     let returned = called.saturating_sub(count_open(pending, object));
     match (start_at(recording, object) as usize).checked_add(returned) {
         Some(n) => Ok(n),

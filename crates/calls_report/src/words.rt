@@ -13,7 +13,7 @@ use calls_text::{Lists, first_cell, first_group, first_sequencer, numbers_of};
 use ec_count::{CellId, EventId, SeqId, Target, WorkerId};
 use ec_heading::Heading;
 use ec_text::Output;
-use ec_trace::{Spellings, put_cell};
+use ec_trace::WordTables;
 use std::io::Write;
 use std::marker::Model;
 
@@ -22,7 +22,7 @@ use std::marker::Model;
 pub struct Speaker<'a> {
     pub(crate) heading: &'a Heading,
     lists: &'a Lists,
-    spellings: Spellings<'a>,
+    words: WordTables<'a>,
 }
 
 impl<'a> Model for Speaker<'a> {
@@ -33,7 +33,7 @@ impl<'a> Model for Speaker<'a> {
 
     ghost view = { λ s. record { heading = s.heading.now; lists = s.lists.now } };
 
-    ghost invariant = { λ s. s.spellings ≡ s.heading.now.words };
+    ghost invariant = { λ s. s.words ≡ s.heading.now.words };
 }
 
 impl<'a> Speaker<'a> {
@@ -45,7 +45,7 @@ impl<'a> Speaker<'a> {
         Speaker {
             heading,
             lists,
-            spellings: Spellings::new(heading.words()),
+            words: WordTables::new(heading.words()),
         }
     }
 
@@ -54,7 +54,7 @@ impl<'a> Speaker<'a> {
         ensures { Puts out.old out.new (worker_word self.now.heading worker) }
     {
         if let Some(worker) = WorkerId::new(worker) {
-            out.put(self.spellings.worker(worker));
+            out.put(self.words.worker(worker));
         }
     }
 
@@ -63,7 +63,7 @@ impl<'a> Speaker<'a> {
         ensures { Puts out.old out.new (event_word self.now.heading event) }
     {
         if let Some(event) = EventId::new(event) {
-            out.put(self.spellings.event(event));
+            out.put(self.words.event(event));
         }
     }
 
@@ -72,7 +72,7 @@ impl<'a> Speaker<'a> {
         ensures { Puts out.old out.new (sequencer_word self.now.heading sequencer) }
     {
         if let Some(sequencer) = SeqId::new(sequencer) {
-            out.put(self.spellings.sequencer(sequencer));
+            out.put(self.words.sequencer(sequencer));
         }
     }
 
@@ -81,7 +81,7 @@ impl<'a> Speaker<'a> {
         ensures { Puts out.old out.new (cell_name self.now.heading cell) }
     {
         if let Some(cell) = CellId::new(cell) {
-            put_cell(out, &self.spellings, cell);
+            self.words.put_cell(out, cell);
         }
     }
 

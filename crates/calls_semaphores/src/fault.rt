@@ -1,5 +1,5 @@
 //! The outcome of a decision about the calls of a bank.
-use calls_core::{Call, PlacedCalls};
+use calls_core::{Call, CallList};
 
 /// Up to the response of a call, more calls took a unit of a semaphore than it had units: those at
 /// first, and one for each v that was invoked by then.
@@ -15,7 +15,7 @@ pub struct Fault {
 #[derive(Debug, Drop)]
 pub enum Outcome {
     /// They have this one.
-    Ordered(PlacedCalls),
+    Ordered(CallList),
     /// They have none. The event at this index is the first one with which there is none.
     Refused(usize, Fault),
 }

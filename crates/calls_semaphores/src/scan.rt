@@ -8,7 +8,7 @@ ghost use Rattle.calls_semaphores.specs.kept.Keeping.{is_v, IsOpened, Steps};
 ghost use Rattle.calls_semaphores.specs.Outcomes.{IsOutcome};
 
 use crate::{Bank, Fault, Outcome};
-use calls_core::{Action, Event, NotedCall, Op, Part, PendingCall, PlacedCalls, Reply, find_noted};
+use calls_core::{Action, CallList, Event, NotedCall, Op, Part, PendingCall, Reply, find_noted};
 use std::alloc::{AllocError, Global};
 
 /// The state of the scan after the events so far.
@@ -19,7 +19,7 @@ pub(crate) struct Scan {
     /// The pending calls, each with the length of `order` at its invocation, where a v is.
     pub(crate) pending: Vec<NotedCall>,
     /// A linearization, in which a pending v has its response at `end`.
-    pub(crate) order: PlacedCalls,
+    pub(crate) order: CallList,
     /// The first position after all events.
     pub(crate) end: usize,
 }
@@ -40,7 +40,7 @@ impl Scan {
         Ok(Scan {
             bank: Bank::new(alloc, units)?,
             pending: Vec::new(alloc),
-            order: PlacedCalls::new(alloc),
+            order: CallList::new(alloc),
             end,
         })
     }
@@ -82,7 +82,7 @@ impl Scan {
         if !is_v(call.op) {
             self.order.push(call)?;
         } else if open.noted < self.order.len() {
-            self.order.set_response(open.noted, reply, event.at);
+            self.order.set_response(open.noted, reply, event.at)?;
         }
         Ok(None)
     }
@@ -110,7 +110,7 @@ impl Scan {
 pub fn decide(
     alloc: Global,
     units: &Vec<usize>,
-    events: &Part<'_, '_>,
+    events: &Part<'_>,
     end: usize,
 ) -> Result<Outcome, AllocError>
     requires history { IsHistoryOf (Semaphores units.now) (reverse events.now) }
@@ -121,7 +121,7 @@ pub fn decide(
     let mut scan = Scan::new(alloc, units, end)?;
     for i in 0..events.len() {
         let event = events.at(i);
-        if let Some(fault) = scan.event(*event)? {
+        if let Some(fault) = scan.event(event)? {
             return Ok(Outcome::Refused(i, fault));
         }
     }

@@ -1,6 +1,6 @@
 //! The outcome of a decision about a cell.
 
-use calls_core::{Call, PendingCall, PlacedCalls};
+use calls_core::{Call, CallList, PendingCall};
 
 /// Why the calls have no linearization.
 #[derive(Debug, Drop)]
@@ -15,7 +15,7 @@ pub struct Fault {
 #[derive(Debug, Drop)]
 pub enum Outcome {
     /// The calls in the order of a linearization.
-    Ordered(PlacedCalls),
+    Ordered(CallList),
     /// The index of the first event with which there is no linearization, and why there is none.
     Refused(usize, Fault),
     /// Two puts that overlap, so that nothing is decided.

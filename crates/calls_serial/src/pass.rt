@@ -12,7 +12,7 @@ use crate::outcome::Outcome;
 use crate::responses::respond;
 use crate::search::{pending_put, put_value};
 use crate::stage::{Pass, Stage, Stop};
-use calls_core::{Action, Event, Part, PendingCall, PlacedCalls, take_pending};
+use calls_core::{Action, CallList, Event, Part, PendingCall, take_pending};
 use std::alloc::{AllocError, Global};
 
 /// Adds an invocation, or returns two puts that overlap.
@@ -84,7 +84,7 @@ fn begin(alloc: Global) -> Result<Pass, AllocError>
 }
 
 /// Appends the calls of a stage: its put, then its gets.
-fn add_calls(calls: &mut PlacedCalls, stage: &Stage) -> Result<(), AllocError>
+fn add_calls(calls: &mut CallList, stage: &Stage) -> Result<(), AllocError>
     ensures { IfOk result (λ _. calls.new ≡ calls.old ++ held_calls (stage_view stage.now)) }
 {
     if let Some(put) = stage.put {
@@ -97,10 +97,10 @@ fn add_calls(calls: &mut PlacedCalls, stage: &Stage) -> Result<(), AllocError>
 }
 
 /// Returns the calls of the stages in their order.
-fn order(alloc: Global, stages: &[Stage]) -> Result<PlacedCalls, AllocError>
+fn order(alloc: Global, stages: &[Stage]) -> Result<CallList, AllocError>
     ensures { IfOk result (λ v. v ≡ all_calls (helds stages.now)) }
 {
-    let mut calls = PlacedCalls::new(alloc);
+    let mut calls = CallList::new(alloc);
     for stage in stages {
         add_calls(&mut calls, stage)?;
     }
@@ -111,7 +111,7 @@ fn order(alloc: Global, stages: &[Stage]) -> Result<PlacedCalls, AllocError>
 ///
 /// It returns one, or why there is none. If two of the puts overlap, it may return these instead.
 /// In a linearization a pending put has its response at `end`.
-pub fn decide(alloc: Global, events: &Part<'_, '_>, end: usize) -> Result<Outcome, AllocError>
+pub fn decide(alloc: Global, events: &Part<'_>, end: usize) -> Result<Outcome, AllocError>
     requires history { IsHistoryOf Cell (reverse events.now) }
     requires late { clock (reverse events.now) ≤ end }
     ensures { IfOk result (IsOutcome Cell events.now end) }
@@ -119,7 +119,7 @@ pub fn decide(alloc: Global, events: &Part<'_, '_>, end: usize) -> Result<Outcom
     let mut pass = begin(alloc)?;
     for i in 0..events.len() {
         let event = events.at(i);
-        if let Some(stop) = take_in(alloc, &mut pass, *event, end)? {
+        if let Some(stop) = take_in(alloc, &mut pass, event, end)? {
             match stop {
                 Stop::Fails(fault) => return Ok(Outcome::Refused(i, fault)),
                 Stop::Overlaps(put, other) => return Ok(Outcome::Overlapping(put, other)),

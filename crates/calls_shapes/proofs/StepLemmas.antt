@@ -11,11 +11,12 @@ use Rattle.calls_shapes.specs.declared.steps.Step.{Step}
 use Rattle.calls_shapes.specs.Steps.{steps_of}
 
 -- what comes from an index on begins with the call there
-from_here : (order : List Placed) (n : ℕ) (d : Placed) → n < length order
-    → drop n order ≡ get_or order n d ∷ drop (n + 1) order
-from_here order n d lt =
+from_here : (order : List Placed) (n : ℕ) (p : Placed) → n < length order
+    → p ≡ get_or order n p → drop n order ≡ p ∷ drop (n + 1) order
+from_here order n p lt read =
     let next : suc n ≡ n + 1 = omega arith in
-    drop-cons order n d lt ∙ ap (λ j. get_or order n d ∷ drop j order) next
+    drop-cons order n p lt ∙ ap (λ q. q ∷ drop (suc n) order) (sym read)
+    ∙ ap (λ j. p ∷ drop j order) next
 
 abbrev step : (ℕ → ℕ) → ℕ → Placed → Step
 step m i p = record { point = p.point; value = after m p.call.op p.call.reply i }
@@ -33,26 +34,25 @@ here_not k i m p ps is =
     (steps_of k i m ps)) is
 
 -- a call of the object adds a step
-step_more : (k i : ℕ) (m : ℕ → ℕ) (order : List Placed) (n : ℕ) (d : Placed)
-    (done all : List Step) → n < length order → ((get_or order n d).call.object == k) ≡ true
-    → done ++ steps_of k i m (drop n order) ≡ all
-    → (done ++ step m i (get_or order n d) ∷ [])
-    ++ steps_of k i (after m (get_or order n d).call.op (get_or order n d).call.reply)
-    (drop (n + 1) order) ≡ all
-step_more k i m order n d done all lt is so_far =
-    append_assoc done (step m i (get_or order n d) ∷ []) _
-    ∙ ap (λ zs. done ++ zs) (sym (here_is k i m (get_or order n d) (drop (n + 1) order) is))
-    ∙ ap (λ zs. done ++ steps_of k i m zs) (sym (from_here order n d lt))
+step_more : (k i : ℕ) (m : ℕ → ℕ) (order : List Placed) (n : ℕ) (p : Placed)
+    (done all : List Step) → n < length order → p ≡ get_or order n p
+    → (p.call.object == k) ≡ true → done ++ steps_of k i m (drop n order) ≡ all
+    → (done ++ step m i p ∷ [])
+    ++ steps_of k i (after m p.call.op p.call.reply) (drop (n + 1) order) ≡ all
+step_more k i m order n p done all lt read is so_far =
+    append_assoc done (step m i p ∷ []) _
+    ∙ ap (λ zs. done ++ zs) (sym (here_is k i m p (drop (n + 1) order) is))
+    ∙ ap (λ zs. done ++ steps_of k i m zs) (sym (from_here order n p lt read))
     ∙ so_far
 
 -- a call of another object adds none
-step_same : (k i : ℕ) (m : ℕ → ℕ) (order : List Placed) (n : ℕ) (d : Placed)
-    (done all : List Step) → n < length order → ((get_or order n d).call.object == k) ≡ false
-    → done ++ steps_of k i m (drop n order) ≡ all
+step_same : (k i : ℕ) (m : ℕ → ℕ) (order : List Placed) (n : ℕ) (p : Placed)
+    (done all : List Step) → n < length order → p ≡ get_or order n p
+    → (p.call.object == k) ≡ false → done ++ steps_of k i m (drop n order) ≡ all
     → done ++ steps_of k i m (drop (n + 1) order) ≡ all
-step_same k i m order n d done all lt is so_far =
-    ap (λ zs. done ++ zs) (sym (here_not k i m (get_or order n d) (drop (n + 1) order) is))
-    ∙ ap (λ zs. done ++ steps_of k i m zs) (sym (from_here order n d lt))
+step_same k i m order n p done all lt read is so_far =
+    ap (λ zs. done ++ zs) (sym (here_not k i m p (drop (n + 1) order) is))
+    ∙ ap (λ zs. done ++ steps_of k i m zs) (sym (from_here order n p lt read))
     ∙ so_far
 
 -- the numbers of the object have this value at the index, and this one at index 2, and the steps so
@@ -67,17 +67,15 @@ abbrev Makes : ℕ → ℕ → ℕ → ℕ → Placed → Type 0
 Makes j value produced made p = (m : ℕ → ℕ) → m j ≡ value → m 2 ≡ produced
     → made ≡ after m p.call.op p.call.reply j
 
-pub so_far_more : (k i : ℕ) (order : List Placed) (n : ℕ) (d : Placed) (old new : List Step)
+pub so_far_more : (k i : ℕ) (order : List Placed) (n : ℕ) (p : Placed) (old new : List Step)
     (value made next produced more further : ℕ) (all : List Step) → n < length order
-    → (get_or order n d).call.object ≡ k
-    → new ≡ old ++ (let s : Step = record { point = (get_or order n d).point; value = made } in s)
-    ∷ []
-    → Makes i value produced made (get_or order n d) → next ≡ made
-    → Makes 2 produced produced more (get_or order n d) → further ≡ more
+    → p ≡ get_or order n p → p.call.object ≡ k
+    → new ≡ old ++ (let s : Step = record { point = p.point; value = made } in s) ∷ []
+    → Makes i value produced made p → next ≡ made → Makes 2 produced produced more p
+    → further ≡ more
     → SoFar k i order n old value produced all → SoFar k i order (n + 1) new next further all
-so_far_more k i order n d old new value made next produced more further all lt is grown by same two
-    last (m, here, there, so_far) =
-    let p = get_or order n d in
+so_far_more k i order n p old new value made next produced more further all lt read is grown by same
+    two last (m, here, there, so_far) =
     let made_is = by m here there in
     let put : new ≡ old ++ step m i p ∷ [] =
     grown ∙ ap (λ v. old ++ (let s : Step = record { point = p.point; value = v } in s) ∷ [])
@@ -86,21 +84,21 @@ so_far_more k i order n d old new value made next produced more further all lt i
       sym made_is ∙ sym same,
       sym (two m there there) ∙ sym last,
       ap (λ zs. zs ++ steps_of k i (after m p.call.op p.call.reply) (drop (n + 1) order)) put
-          ∙ step_more k i m order n d old all lt (eq-eqb p.call.object k is) so_far,
+          ∙ step_more k i m order n p old all lt read (eq-eqb p.call.object k is) so_far,
     )
 
-pub so_far_same : (k i : ℕ) (order : List Placed) (n : ℕ) (d : Placed) (old new : List Step)
+pub so_far_same : (k i : ℕ) (order : List Placed) (n : ℕ) (p : Placed) (old new : List Step)
     (value next produced further : ℕ) (all : List Step) → n < length order
-    → ((get_or order n d).call.object ≡ k → ⊥) → new ≡ old → next ≡ value → further ≡ produced
+    → p ≡ get_or order n p → (p.call.object ≡ k → ⊥) → new ≡ old → next ≡ value
+    → further ≡ produced
     → SoFar k i order n old value produced all → SoFar k i order (n + 1) new next further all
-so_far_same k i order n d old new value next produced further all lt is kept same last
+so_far_same k i order n p old new value next produced further all lt read is kept same last
     (m, here, there, so_far) = (
       m,
       here ∙ sym same,
       there ∙ sym last,
       ap (λ zs. zs ++ steps_of k i m (drop (n + 1) order)) kept
-          ∙ step_same k i m order n d old all lt
-          (ne_eqb (get_or order n d).call.object k is) so_far,
+          ∙ step_same k i m order n p old all lt read (ne_eqb p.call.object k is) so_far,
     )
 
 -- AFTER AN ITEM WAS PRODUCED

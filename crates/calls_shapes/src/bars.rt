@@ -2,7 +2,7 @@
 ghost use Rattle.std.specs.Prelude.{IfOk};
 ghost use Rattle.calls_shapes.specs.Bars.{AreBars};
 
-use calls_core::{Call, Event, PendingCall};
+use calls_core::{Call, Part, PendingCall};
 use calls_report::completed_call;
 use calls_verdict::follow;
 use std::alloc::{AllocError, Global};
@@ -17,18 +17,19 @@ pub struct Bars {
 }
 
 /// Returns the bars of these events: exactly their calls.
-pub fn bars_of(alloc: Global, events: &[Event]) -> Result<Bars, AllocError>
+pub fn bars_of(alloc: Global, events: &Part<'_>) -> Result<Bars, AllocError>
     ensures { IfOk result (AreBars events.now) }
 {
     let mut bars = Bars {
         completed: Vec::new(alloc),
         pending: Vec::new(alloc),
     };
-    for event in events {
-        if let Some(call) = completed_call(&bars.pending, event) {
+    for i in 0..events.len() {
+        let event = events.at(i);
+        if let Some(call) = completed_call(&bars.pending, &event) {
             bars.completed.push(call)?;
         }
-        let _object = follow(&mut bars.pending, event)?;
+        let _object = follow(&mut bars.pending, &event)?;
     }
     Ok(bars)
 }

@@ -10,7 +10,7 @@ use crate::bars::bars_of;
 use crate::stairs::{Portion, StairSpan};
 use crate::steps::{Track, start_of};
 use crate::tallies::CountFilter;
-use calls_core::{Call, Event, Kind, Op, Reply};
+use calls_core::{Call, Kind, Op, Part, Reply};
 use calls_verdict::Fault;
 use std::alloc::{AllocError, Global};
 
@@ -57,7 +57,7 @@ fn moves_as(consume: &Call, call: &Call) -> bool
 
 /// Returns the completed calls that move the item that a consume returned, in the order of their
 /// responses.
-fn item_moves(alloc: Global, events: &[Event], consume: &Call) -> Result<Vec<Call>, AllocError>
+fn item_moves(alloc: Global, events: &Part<'_>, consume: &Call) -> Result<Vec<Call>, AllocError>
     ensures { IfOk result (λ v. v.items ≡ item_moves events.now consume.now) }
 {
     let bars = bars_of(alloc, events)?;
@@ -71,7 +71,7 @@ fn item_moves(alloc: Global, events: &[Event], consume: &Call) -> Result<Vec<Cal
 /// Returns the calls that a fault of a buffer names.
 fn item_calls(
     alloc: Global,
-    events: &[Event],
+    events: &Part<'_>,
     fault: &calls_buffers::Fault,
 ) -> Result<Vec<Call>, AllocError>
     ensures { IfOk result (λ v. v.items ≡ item_calls events.now fault.now) }
@@ -93,7 +93,11 @@ fn item_calls(
 
 /// Returns the calls that a fault names, in the order in which it names them. If too few produces
 /// put an item in, these are all that put it in or took it out.
-pub fn faulty_calls(alloc: Global, events: &[Event], fault: &Fault) -> Result<Vec<Call>, AllocError>
+pub fn faulty_calls(
+    alloc: Global,
+    events: &Part<'_>,
+    fault: &Fault,
+) -> Result<Vec<Call>, AllocError>
     ensures { IfOk result (λ v. v.items ≡ faulty_calls events.now fault.now) }
 {
     match fault {

@@ -8,7 +8,7 @@ ghost use Rattle.calls_shapes.specs.Stairs.{gave_up, given_up, is_called_by, inv
 ghost use Rattle.calls_shapes.specs.Stairs.{IsStair};
 
 use crate::tallies::{CountFilter, counts, invokes_counted_call, is_counted};
-use calls_core::{Call, Event, PendingCall, Reply};
+use calls_core::{Call, Event, Part, PendingCall, Reply};
 use calls_report::completed_call;
 use calls_verdict::follow;
 use std::alloc::{AllocError, Global};
@@ -84,14 +84,15 @@ impl StairSpan {
 /// Returns the positions of the invocations of counted calls.
 fn invocations_of(
     alloc: Global,
-    events: &[Event],
+    events: &Part<'_>,
     counted: CountFilter,
 ) -> Result<Vec<usize>, AllocError>
     ensures { IfOk result (λ v. v.items ≡ rises_of counted Called events.now) }
 {
     let mut positions = Vec::new(alloc);
-    for event in events {
-        if invokes_counted_call(counted, event) {
+    for i in 0..events.len() {
+        let event = events.at(i);
+        if invokes_counted_call(counted, &event) {
             positions.push(event.at)?;
         }
     }
@@ -99,18 +100,19 @@ fn invocations_of(
 }
 
 /// Returns the positions of the responses of the completed calls with which a course rises.
-fn responses_of(alloc: Global, events: &[Event], span: StairSpan) -> Result<Vec<usize>, AllocError>
+fn responses_of(alloc: Global, events: &Part<'_>, span: StairSpan) -> Result<Vec<usize>, AllocError>
     ensures { IfOk result (λ v. v.items ≡ responses_in span.counted span.portion events.now) }
 {
     let mut pending = Vec::new(alloc);
     let mut positions = Vec::new(alloc);
-    for event in events {
-        if let Some(call) = completed_call(&pending, event) {
+    for i in 0..events.len() {
+        let event = events.at(i);
+        if let Some(call) = completed_call(&pending, &event) {
             if span.has_completed(&call) {
                 positions.push(call.last)?;
             }
         }
-        let _object = follow(&mut pending, event)?;
+        let _object = follow(&mut pending, &event)?;
     }
     Ok(positions)
 }
@@ -123,18 +125,23 @@ fn gave_up(counted: CountFilter, call: &Call) -> bool
 }
 
 /// Returns the positions of the invocations of the calls that gave up.
-fn given_up(alloc: Global, events: &[Event], counted: CountFilter) -> Result<Vec<usize>, AllocError>
+fn given_up(
+    alloc: Global,
+    events: &Part<'_>,
+    counted: CountFilter,
+) -> Result<Vec<usize>, AllocError>
     ensures { IfOk result (λ v. v.items ≡ given_up counted events.now) }
 {
     let mut pending = Vec::new(alloc);
     let mut positions = Vec::new(alloc);
-    for event in events {
-        if let Some(call) = completed_call(&pending, event) {
+    for i in 0..events.len() {
+        let event = events.at(i);
+        if let Some(call) = completed_call(&pending, &event) {
             if gave_up(counted, &call) {
                 positions.push(call.first)?;
             }
         }
-        let _object = follow(&mut pending, event)?;
+        let _object = follow(&mut pending, &event)?;
     }
     Ok(positions)
 }
@@ -169,7 +176,7 @@ fn is_called_by(counted: CountFilter, by: usize, others: &[usize], event: &Event
 /// order.
 fn invocations_by(
     alloc: Global,
-    events: &[Event],
+    events: &Part<'_>,
     counted: CountFilter,
     by: usize,
     others: &[usize],
@@ -178,8 +185,9 @@ fn invocations_by(
     ensures { IfOk result (λ v. v.items ≡ invocations_by counted by others.now events.now) }
 {
     let mut positions = Vec::new(alloc);
-    for event in events {
-        if is_called_by(counted, by, others, event) {
+    for i in 0..events.len() {
+        let event = events.at(i);
+        if is_called_by(counted, by, others, &event) {
             positions.push(event.at)?;
         }
     }
@@ -189,7 +197,7 @@ fn invocations_by(
 /// Returns the positions of the invocations of calls up to one that did not give up.
 fn called_by(
     alloc: Global,
-    events: &[Event],
+    events: &Part<'_>,
     counted: CountFilter,
     by: usize,
 ) -> Result<Vec<usize>, AllocError>
@@ -200,7 +208,7 @@ fn called_by(
 }
 
 /// Returns the stair of a course over these events.
-pub fn stair_of(alloc: Global, events: &[Event], span: StairSpan) -> Result<Stair, AllocError>
+pub fn stair_of(alloc: Global, events: &Part<'_>, span: StairSpan) -> Result<Stair, AllocError>
     ensures { IfOk result (IsStair events.now span) }
 {
     let rises = match span.portion {

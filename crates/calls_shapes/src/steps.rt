@@ -3,7 +3,7 @@ ghost use Rattle.std.specs.Prelude.{◌≡◌, ◌↔◌, ℕ, ◌+◌, IfOk, Is
 ghost use Rattle.calls_core.specs.Linearizations.{after, start};
 ghost use Rattle.calls_shapes.specs.Steps.{steps_of};
 
-use calls_core::{Kind, Op, Placed, Reply};
+use calls_core::{Kind, Op, Order, Reply};
 use std::alloc::{AllocError, Global};
 
 /// A number of an object. A bank of semaphores has one for each. A buffer has how many items were
@@ -120,7 +120,7 @@ fn next(
 pub fn steps_of(
     alloc: Global,
     kinds: &[Kind],
-    order: &[Placed],
+    order: &Order,
     track: Track,
 ) -> Result<Vec<Step>, AllocError>
     ensures { IfOk result (λ steps. steps.items
@@ -135,7 +135,8 @@ pub fn steps_of(
             index: 2,
         },
     );
-    for placed in order {
+    for i in 0..order.len() {
+        let placed = order.at(i);
         let call = &placed.call;
         if call.object == track.object {
             value = next(value, produced, track.index, call.op, call.reply)?;

@@ -4,7 +4,7 @@ ghost use Rattle.std.specs.List.{cons_option};
 ghost use Rattle.std.specs.Prelude.{[], ◌∷◌, count_by};
 ghost use Rattle.calls_shapes.specs.Tallies.{counts, invokes_counted_call, is_counted, tally_at};
 
-use calls_core::{Action, Call, Event, Op, Reply};
+use calls_core::{Action, Call, Event, Op, Part, Reply};
 use calls_report::completed_call;
 use calls_verdict::follow;
 use std::alloc::{AllocError, Global};
@@ -99,7 +99,7 @@ fn count_call(counted: CountFilter, event: &Event) -> usize
 /// Returns the tallies at all moments: the one at index p is that of the first p events.
 pub fn tallies_of(
     alloc: Global,
-    events: &[Event],
+    events: &Part<'_>,
     counted: CountFilter,
 ) -> Result<Vec<Tally>, AllocError>
     ensures count { IfOk result (λ v. length v.items ≡ length events.now + 1) }
@@ -112,11 +112,12 @@ pub fn tallies_of(
         called: 0,
         returned: 0,
     };
-    for event in events {
+    for i in 0..events.len() {
+        let event = events.at(i);
         tallies.push(tally)?;
-        tally.called += count_call(counted, event);
-        tally.returned += count_one(counted, completed_call(&pending, event));
-        let _object = follow(&mut pending, event)?;
+        tally.called += count_call(counted, &event);
+        tally.returned += count_one(counted, completed_call(&pending, &event));
+        let _object = follow(&mut pending, &event)?;
     }
     tallies.push(tally)?;
     Ok(tallies)

@@ -1,7 +1,7 @@
 //! Judges histories.
 use crate::reading::{History, Line, read_line};
 use crate::writing::{write_misuse, write_stop, write_verdict};
-use calls_core::{Event, Kind};
+use calls_core::{Event, Events, Kind};
 use calls_monitor::watch;
 use calls_spsc::{Monitor, ROOM_MAX};
 use calls_verdict::{decide, first_misuse, has_room};
@@ -33,10 +33,10 @@ impl Mode {
 }
 
 /// Returns the index of the event at which the monitor of a buffer stops.
-fn stop_of(room: usize, events: &[Event]) -> Option<usize> {
+fn stop_of(room: usize, events: &Events) -> Option<usize> {
     let mut monitor = Monitor::new(room.clamp(1, ROOM_MAX));
-    for (index, event) in events.iter().enumerate() {
-        if monitor.event(*event).is_err() {
+    for index in 0..events.len() {
+        if monitor.event(events.at(index)).is_err() {
             return Some(index);
         }
     }
@@ -51,7 +51,7 @@ fn judge<W: Write + Drop>(
     out: &mut W,
 ) -> io::Result<()> {
     let kinds = history.kinds.as_slice();
-    let events = history.events.as_slice();
+    let events = &history.events;
     if let Some((index, misuse)) = first_misuse(alloc, kinds, events)? {
         return write_misuse(out, index, misuse);
     }
@@ -83,7 +83,7 @@ pub fn judge_all<W: Write + Drop>(
 ) -> io::Result<bool> {
     let mut history = History {
         kinds: Vec::new(alloc),
-        events: Vec::new(alloc),
+        events: Events::new(alloc),
     };
     for part in text.lines() {
         match read_line(alloc, part)? {
@@ -98,7 +98,7 @@ pub fn judge_all<W: Write + Drop>(
                 judge(alloc, mode, &history, out)?;
                 history = History {
                     kinds: Vec::new(alloc),
-                    events: Vec::new(alloc),
+                    events: Events::new(alloc),
                 };
             }
         }

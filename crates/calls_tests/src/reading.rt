@@ -1,5 +1,5 @@
 //! Reads the lines of histories.
-use calls_core::{Action, Event, Kind, Op, Reply};
+use calls_core::{Action, Events, Kind, Op, Reply};
 use std::alloc::{AllocError, Global};
 
 /// One history of the input.
@@ -8,7 +8,7 @@ pub struct History {
     /// The kind of each object.
     pub kinds: Vec<Kind>,
     /// The events in order.
-    pub events: Vec<Event>,
+    pub events: Events,
 }
 
 /// A line of a history.

@@ -213,8 +213,8 @@ pub fn write_verdict<W: Write>(out: &mut W, verdict: &Verdict) -> io::Result<()>
     match verdict {
         Verdict::Linearizable(order) => {
             writeln!(out, "linearizable")?;
-            for placed in order {
-                write_placed(out, placed)?;
+            for i in 0..order.len() {
+                write_placed(out, &order.at(i))?;
             }
             writeln!(out, "end")
         }

@@ -183,12 +183,12 @@ may_call run w v o ws fits none ks are =
 -- one more advance fits
 pub may_add : (run : Running) (w e : ℕ) (v : OpWord) (o : Object) → v ≡ verbs.Advance
     → o ≡ objects.Event e → spent_by run w v o ≡ false → IsDeclared run.recording.heading.setup
-    → tally_at run.tally w e + 1 < 2 ^ 64
+    → tally_at run.tally.value w e + 1 < 2 ^ 64
 may_add run w e v o is of none declared =
     let more : spent_by run w verbs.Advance (objects.Event e) ≡ false =
     sym (ap (λ (x : OpWord). spent_by run w x o) is ∙ ap (spent_by run w verbs.Advance) of)
     ∙ none in
-    let below : tally_at run.tally w e < run.recording.heading.setup.limit = leb-false _ _ more in
+    let below : tally_at run.tally.value w e < run.recording.heading.setup.limit = leb-false _ _ more in
     omega (arith, declared.limit.1)
 
 -- a call without a fault is below the limit
@@ -201,10 +201,10 @@ not_spent run w v o ws none =
 -- this does not depend on the lists
 pub still_not_spent : (old new : Running) (mid : RecordingModel) (w : ℕ) (v : OpWord) (o : Object)
     (ws lists : List (List ℕ)) → mid ≡ record old.recording { lists = lists }
-    → new.recording ≡ mid → new.tally ≡ old.tally → fault_by old w v o ws ≡ None
+    → new.recording ≡ mid → new.tally.value ≡ old.tally.value → fault_by old w v o ws ≡ None
     → spent_by new w v o ≡ false
 still_not_spent old new mid w v o ws lists mid_is is same none =
-    ap (λ (r : RecordingModel). spent_at r.heading.setup.limit new.tally w v o) (is ∙ mid_is)
+    ap (λ (r : RecordingModel). spent_at r.heading.setup.limit new.tally.value w v o) (is ∙ mid_is)
     ∙ ap (λ (t : Tally). spent_at old.recording.heading.setup.limit t w v o) same
     ∙ not_spent old w v o ws none
 
@@ -293,7 +293,7 @@ pub record IsMade (old : Running) (w : ℕ) (v : OpWord) (o : Object) (ws : List
   pub recording : new.recording ≡ mid
   pub count : new.count ≡ old.count + 1
   pub pending : new.pending.items ≡ old.pending.items ++ invoked_by x k op ∷ []
-  pub tally : TallyAfter old.tally new.tally w v o
+  pub tally : TallyAfter old.tally.value new.tally.value w v o
 
 pub call_made : (old : Running) (w : ℕ) (v : OpWord) (o : Object) (ws : List (List ℕ))
     (mid : RecordingModel) (new : Running) (n k : ℕ) (op : Op) (x : Event)
@@ -323,8 +323,8 @@ call_made old w v o ws mid new n k op x is fits none =
         count = is.count;
         pending = subst (λ (a : Action). new.pending.items ≡ pending_after x a old.pending.items)
             (sym (ap (λ (y : Event). y.action) is.event)) is.pending;
-        tally = subst (IsTallied old.tally new.tally) (sym event)
-            (tallied h old.tally new.tally w v o _ old.count fits is.tally);
+        tally = subst (IsTallied old.tally.value new.tally.value) (sym event)
+            (tallied h old.tally.value new.tally.value w v o _ old.count fits is.tally);
         recording =
             last ∙ ap (λ (ls : List (List ℕ)). (let r : RecordingModel = record old.recording
             { lists = ls } in r)) (sym (ap (λ (r : RecordingModel). r.lists) last));

@@ -261,7 +261,7 @@ event_added events old new line x is given =
       run = record {
         pending = on.pending ∙ ap (pending_after x x.action) is.pending
             ∙ sym (pending_then events x);
-        counted = counted_then events old.tally new.tally x is.counted on.tally;
+        counted = counted_then events old.tally.value new.tally.value x is.counted on.tally;
         count = on.count ∙ ap (λ n. n + 1) is.count ∙ sym (length-append events (x ∷ []));
         declared = subst (λ (s : RecordingModel). IsDeclared s.heading.setup) (sym on.recording)
             is.declared;

@@ -11,7 +11,7 @@ ghost use Rattle.calls_text.specs.Reading.{with_events, recorded_of};
 
 use crate::index::cells_of;
 use crate::lists::Lists;
-use calls_core::{Event, Kind};
+use calls_core::{Event, Events, Kind};
 use ec_count::EventId;
 use ec_heading::{Group, Heading};
 use std::alloc::{AllocError, Global};
@@ -24,7 +24,7 @@ pub struct Recording {
     pub(crate) heading: Box<Heading>,
     pub(crate) from: Vec<(EventId, u64)>,
     pub(crate) kinds: Vec<Kind>,
-    pub(crate) events: Vec<Event>,
+    pub(crate) events: Events,
     pub(crate) lists: Lists,
 }
 
@@ -36,14 +36,14 @@ impl Model for Recording {
     ghost view = { λ r. record {
       heading = r.heading.value;
       from = r.from.items;
-      events = r.events.items;
+      events = r.events;
       lists = r.lists;
     } };
 
     ghost invariant = { λ r. IsRecording (record {
       heading = r.heading.value;
       from = r.from.items;
-      events = r.events.items;
+      events = r.events;
       lists = r.lists;
     }) r.kinds.items };
 }
@@ -184,7 +184,7 @@ impl Recording {
             heading,
             from,
             kinds,
-            events: Vec::new(alloc),
+            events: Events::new(alloc),
             lists: Lists::new(alloc),
         })
     }
@@ -224,10 +224,10 @@ impl Recording {
     }
 
     /// Returns the events, the one at index i at position i.
-    pub fn events(&self) -> &[Event]
+    pub fn events(&self) -> &Events
         ensures { result.now ≡ self.now.events }
     {
-        self.events.as_slice()
+        &self.events
     }
 
     /// Returns the lists of numbers that databases store.

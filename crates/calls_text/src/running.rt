@@ -41,7 +41,8 @@ pub(crate) struct Running {
     /// What is declared, the lists so far, and the events that are stored.
     pub(crate) recording: Recording,
     pending: Vec<PendingCall>,
-    tally: Tally,
+    /// Boxed, since a `Tally` is large and a stage is moved.
+    tally: Box<Tally>,
     count: usize,
 }
 
@@ -346,18 +347,18 @@ fn call_fault(
 
 impl Running {
     /// Returns a history before its first event.
-    pub(crate) fn new(alloc: Global, recording: Recording) -> Running
+    pub(crate) fn new(alloc: Global, recording: Recording) -> Result<Running, AllocError>
         requires { recording.events ≡ [] }
-        ensures recording { result.recording ≡ recording }
-        ensures run { IsRunning [] result }
+        ensures recording { IfOk result (λ running. running.recording ≡ recording) }
+        ensures run { IfOk result (λ running. IsRunning [] running) }
     {
         recording.heading().setup().invariant();
-        Running {
+        Ok(Running {
             recording,
             pending: Vec::new(alloc),
-            tally: Tally::zeros(),
+            tally: Box::new(alloc, Tally::zeros())?,
             count: 0,
-        }
+        })
     }
 
     /// Returns how many calls are pending.
@@ -402,7 +403,7 @@ impl Running {
         ensures count { OnOk result (self.new.count ≡ self.old.count + 1) }
         ensures pending { self.new.pending ≡ self.old.pending }
         ensures recording { self.new.recording ≡ self.old.recording }
-        ensures tally { self.new.tally ≡ self.old.tally }
+        ensures tally { self.new.tally.value ≡ self.old.tally.value }
     {
         let event = Event {
             at: self.count,
@@ -417,7 +418,8 @@ impl Running {
     /// Counts the call, if it is an advance.
     fn count(&mut self, worker: WorkerId, verb: OpWord, object: &Object)
         requires { spent_by self.old worker verb object.now ≡ false }
-        ensures tally { TallyAfter self.old.tally self.new.tally worker verb object.now }
+        ensures tally { TallyAfter self.old.tally.value self.new.tally.value worker verb
+            object.now }
         ensures pending { self.new.pending ≡ self.old.pending }
         ensures count { self.new.count ≡ self.old.count }
         ensures recording { self.new.recording ≡ self.old.recording }

@@ -121,7 +121,7 @@ impl Stage {
             Stage::Limiting => Ok(Stage::Declaring(Draft::open(alloc, line)?)),
             Stage::Declaring(Draft { heading, from }) => {
                 let recording = Recording::new(alloc, heading, from)?;
-                Ok(Stage::Running(Running::new(alloc, recording)))
+                Ok(Stage::Running(Running::new(alloc, recording)?))
             }
             Stage::Running(running) => Ok(Stage::Ended(running.recording)),
             Stage::Ended(_) => Err(LineFault::Of(FaultKind::BadLine)),

@@ -1,14 +1,22 @@
 -- The events of each object, with one more event of the history.
 use Rattle.std.proofs.Common.{◌≡◌, ℕ, ◌+◌, ◌<◌, List, length, get_or, take, reverse}
-use Rattle.std.proofs.Common.{Option, Some, None, ap, sym, ◌∙◌, subst}
+use Rattle.std.proofs.Common.{Option, Some, None, refl, ap, sym, ◌∙◌, subst}
+use Rattle.std.proofs.lemmas.Option.{slice_get_read}
 use Rattle.calls_core.specs.declared.history.Event.{Event}
 use Rattle.calls_core.specs.declared.history.PendingCall.{PendingCall}
 use Rattle.calls_core.specs.Lists.{EachFrom}
 use Rattle.calls_core.specs.Histories.{pending_of, pending_calls}
+use Rattle.calls_core.specs.Parts.{event_or_blank, event_at}
 use Rattle.calls_core.proofs.Beginnings.{past_next}
 use Rattle.calls_verdict.specs.kept.Parts.{IsFollowed, IsAdded, IsPart, object_of}
 use Rattle.calls_verdict.proofs.Finding.{pending_more}
 use Rattle.calls_verdict.proofs.PartsMore.{parts_same}
+
+-- the event at an index of a part, where there is one
+pub event_read : (events : List Event) (i : ℕ) (x : Event) → i < length events
+    → x ≡ get_or events i x → event_at events i ≡ get_or events i x
+event_read events i x lt read =
+    ap event_or_blank (slice_get_read events (length events) i x refl lt read) ∙ read
 
 module _ (events : List Event) (i : ℕ) (d : Event) (lt : i < length events) where
   object_now : (os new : List PendingCall) (o z : Option ℕ)

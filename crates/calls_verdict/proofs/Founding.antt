@@ -4,7 +4,6 @@ use Rattle.std.proofs.Common.{List, [], ◌++◌, length, Option, Some, None, re
 use Rattle.std.proofs.Common.{◌∙◌, arith, subst, slice_get, reverse, get_or}
 use Rattle.std.proofs.lemmas.Bool.{cases_lt}
 use Rattle.std.proofs.lemmas.Option.{same_Some, none-some, slice_get_within}
-use Rattle.std.specs.Global.{Vec}
 use Rattle.std.specs.Option.{is_some}
 use Rattle.calls_core.specs.declared.history.Kind.{Kind}
 use Rattle.calls_core.specs.declared.history.Reply.TheVariants as reply
@@ -87,7 +86,7 @@ module _ (kinds : List Kind) (past : List Event) (h : IsHistory kinds past) wher
       → slice_get kinds n ≡ Some kind → reverse own ≡ part n past
       → IsOrderOf kind (reverse own) (clock past) cs
       → new.refusal ≡ old.refusal → new.undecided ≡ old.undecided
-      → new.placed.items ≡ old.placed.items ++ placed_one 0 cs
+      → new.placed ≡ old.placed ++ placed_one 0 cs
       → AreFound kinds past n old → AreFound kinds past (n + 1) new
   found_ordered n kind own cs old new is mine l refused undecided items f =
       (let order : IsOrderOf kind (part n past) (clock past) cs =
@@ -106,7 +105,7 @@ module _ (kinds : List Kind) (past : List Event) (h : IsHistory kinds past) wher
         refused = subst (IsRefused kinds past) (sym refused) f.refused;
         undecided = subst (IsOpen kinds past) (sym undecided) f.undecided;
         placed = λ a b. subst (ArePlaced kinds past (n + 1)) (sym items)
-            (placed_more kinds past h n kind old.placed.items cs is order
+            (placed_more kinds past h n kind old.placed cs is order
             (f.placed (sym refused ∙ a) (sym undecided ∙ b)));
       })
 
@@ -242,7 +241,7 @@ module _ (kinds : List Kind) (past : List Event) (h : IsHistory kinds past) wher
   -- NO OBJECT, AND ALL
 
   pub found_none : (found : Findings) → found.refusal ≡ None → found.undecided ≡ None
-      → found.placed.items ≡ []
+      → found.placed ≡ []
       → AreFound kinds past 0 found
   found_none found refused undecided items = record {
     clear = λ k kind lt e m le. absurd (omega arith);
@@ -279,11 +278,11 @@ module _ (kinds : List Kind) (past : List Event) (h : IsHistory kinds past) wher
         f.clear);
   }
 
-  pub verdict_ordered : (found : Findings) (v : Vec Placed) → found.refusal ≡ None
+  pub verdict_ordered : (found : Findings) (v : List Placed) → found.refusal ≡ None
       → found.undecided ≡ None
-      → v.items ≡ by_points found.placed.items → AreFound kinds past (length kinds) found
+      → v ≡ by_points found.placed → AreFound kinds past (length kinds) found
       → IsVerdict kinds past (Linearizable v)
   verdict_ordered found v a b e f =
       subst (IsPlacedOrder (IsRun (start kinds)) (completed_calls past) (pending_calls past)
       (clock past)) (sym e)
-      (placed_whole kinds past h found.placed.items (f.placed a b))
+      (placed_whole kinds past h found.placed (f.placed a b))

@@ -1,3 +1,4 @@
+pub mod Ends
 pub mod Finding
 pub mod PartsMore
 pub mod Adding

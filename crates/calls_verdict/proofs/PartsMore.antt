@@ -1,14 +1,15 @@
 -- The events of each object, one event after another.
 use Rattle.std.proofs.Common.{◌≡◌, ℕ, zero, suc, ◌+◌, ◌<◌, false, ◌==◌, cond}
-use Rattle.std.proofs.Common.{List, [], ◌∷◌, ◌++◌, length, get_or, set, reverse}
-use Rattle.std.proofs.Common.{Option, Some, None, refl, ap, sym, ◌∙◌, arith}
+use Rattle.std.proofs.Common.{List, [], ◌∷◌, ◌++◌, length, get_or, map, set, reverse}
+use Rattle.std.proofs.Common.{Option, Some, None, refl, ap, sym, ◌∙◌, arith, subst}
 use Rattle.std.proofs.lemmas.Bool.{eq-eqb, ne_eqb}
-use Rattle.std.proofs.lemmas.List.{reverse-append}
+use Rattle.std.proofs.lemmas.List.{reverse-append, map-append, map-set, get_or-map, length-map}
 use Rattle.calls_core.specs.declared.history.Action.{Action}
 use Rattle.calls_core.specs.declared.history.Action.TheVariants.{Invoke, Respond}
 use Rattle.calls_core.specs.declared.history.Event.{Event}
 use Rattle.calls_core.specs.declared.history.PendingCall.{PendingCall}
 use Rattle.calls_core.specs.Lists.{EachFrom}
+use Rattle.calls_core.specs.Parts.{event_at, events_at}
 use Rattle.calls_core.specs.Histories.{pending_of, pending_calls, is_on, part}
 use Rattle.calls_verdict.specs.kept.Parts.{object_of, IsPart}
 
@@ -90,3 +91,25 @@ pub empty_more : (k : ℕ) (parts : List (List Event)) (own : List Event) → ow
     → EachFrom (IsPart []) k parts → EachFrom (IsPart []) k (parts ++ own ∷ [])
 empty_more k [] own e h = (ap reverse e, tt)
 empty_more k (p ∷ parts) own e h = (h.0, empty_more (k + 1) parts own e h.1)
+
+-- BY INDICES
+
+-- an index is added to the list of its object
+pub index_more : (events : List Event) (j i : ℕ) (parts later : List (List ℕ)) (own was : List ℕ)
+    (past : List Event)
+    → object_of (event_at events i).action (pending_of (event_at events i).worker
+    (pending_calls past)) ≡ Some j
+    → j < length parts → was ≡ get_or parts j was → own ≡ was ++ i ∷ [] → later ≡ set parts j own
+    → EachFrom (IsPart past) 0 (map (events_at events) parts)
+    → EachFrom (IsPart (event_at events i ∷ past)) 0 (map (events_at events) later)
+index_more events j i parts later own was past e lt read is set_is h =
+    let f = events_at events in
+    let within : j < length (map f parts) = omega (arith, length-map parts f) in
+    let here : f own ≡ get_or (map f parts) j [] ++ event_at events i ∷ [] =
+    ap f is ∙ map-append (event_at events) was (i ∷ [])
+    ∙ ap (λ zs. zs ++ event_at events i ∷ [])
+    (ap f read ∙ sym (get_or-map f parts j was [] lt)) in
+    subst (EachFrom (IsPart (event_at events i ∷ past)) 0)
+    (sym (ap (map f) set_is ∙ map-set f parts j own))
+    (parts_more j 0 j (event_at events i) past (map f parts) (f own) [] e (omega arith) within here
+    h)

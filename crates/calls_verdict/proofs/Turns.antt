@@ -1,10 +1,12 @@
 -- The requirements of the decision on the object with the next index.
 use Rattle.std.proofs.Common.{◌≡◌, ℕ, zero, suc, ◌+◌, ◌<◌, ◌≤◌, ◌^◌, List, [], ◌∷◌, length, reverse}
-use Rattle.std.proofs.Common.{get_or, Some, refl, ap, sym, ◌∙◌, arith, subst, slice_get}
+use Rattle.std.proofs.Common.{get_or, map, Some, refl, ap, sym, ◌∙◌, arith, subst, slice_get}
 use Rattle.std.proofs.lemmas.Option.{slice_get_read}
+use Rattle.std.proofs.lemmas.List.{get_or-map, length-map}
 use Rattle.calls_core.specs.declared.history.Kind.{Kind}
 use Rattle.calls_core.specs.declared.history.Event.{Event}
 use Rattle.calls_core.specs.Lists.{EachFrom}
+use Rattle.calls_core.specs.Parts.{events_at}
 use Rattle.calls_core.specs.Histories.{clock, part, IsHistory, IsHistoryOf}
 use Rattle.calls_local.proofs.Parts.{part_history_of, part_clock}
 use Rattle.calls_verdict.specs.declared.verdict.Decision.{Decision}
@@ -34,19 +36,28 @@ decision_room kind own t (Open i u) h le fits is = tt
 decision_room kind own t (Ordered cs) h le fits is = tt
 
 module _ (kinds : List Kind) (events : List Event) (h : IsHistory kinds (reverse events))
-    (parts : List (List Event))
-    (p : AreParts (length kinds) (reverse events) parts) (k : ℕ) (lt : k < length kinds)
-    (kind : Kind)
-    (read : kind ≡ get_or kinds k kind) (own : List Event) (of : own ≡ get_or parts k own)
-    (list : List Event) (is : list ≡ own) where
+    (parts : List (List ℕ))
+    (p : AreParts (length kinds) (reverse events) (map (events_at events) parts)) (k : ℕ)
+    (lt : k < length kinds) (kind : Kind)
+    (read : kind ≡ get_or kinds k kind) (own : List ℕ) (of : own ≡ get_or parts k own)
+    (list : List Event) (is : list ≡ events_at events own) where
+  within : k < length (map (events_at events) parts)
+  within = omega (arith, p.count)
+
+  own_at : events_at events own ≡ get_or (map (events_at events) parts) k (events_at events own)
+  own_at = ap (events_at events) of
+      ∙ sym (get_or-map (events_at events) parts k own (events_at events own)
+      (omega (arith, within, length-map parts (events_at events))))
+
   pub turn_kind : slice_get kinds k ≡ Some kind
   turn_kind = slice_get_read kinds (length kinds) k kind refl lt read
 
   pub turn_part : reverse list ≡ part k (reverse events)
   turn_part =
       (let zero_plus : 0 + k ≡ k = omega arith in
-      ap reverse is ∙ each_at (reverse events) 0 k parts own (omega (arith, p.count)) of p.each ∙ ap
-      (λ j. part j (reverse events)) zero_plus)
+      ap reverse is
+      ∙ each_at (reverse events) 0 k (map (events_at events) parts) (events_at events own) within
+      own_at p.each ∙ ap (λ j. part j (reverse events)) zero_plus)
 
   pub turn_history : IsHistoryOf kind (reverse list)
   turn_history = subst (IsHistoryOf kind) (sym turn_part) (part_history_of kinds k kind

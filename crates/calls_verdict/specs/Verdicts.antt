@@ -152,6 +152,6 @@ pub record IsNotDecided (kinds : List Kind) (past : List Event) (u : Undecided) 
 abbrev pub IsVerdict : List Kind → List Event → Verdict → Type 0
 IsVerdict kinds past (Linearizable order) =
     IsPlacedOrder (IsRun (start kinds)) (completed_calls past) (pending_calls past)
-    (clock past) order.items
+    (clock past) order
 IsVerdict kinds past (Refused r) = IsFirstRefusal kinds past r.at r.object r.fault
 IsVerdict kinds past (NotDecided u) = IsNotDecided kinds past u

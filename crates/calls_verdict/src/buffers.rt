@@ -7,7 +7,7 @@ ghost use Rattle.calls_buffers.specs.Faults.{Shows};
 ghost use Rattle.calls_verdict.specs.Verdicts.{IsHard, IsDecision};
 
 use crate::verdict::{Cause, Decision, Fault};
-use calls_core::{Part, PlacedCalls};
+use calls_core::{CallList, Part};
 use calls_distinct::{events_up_to, next_between};
 use std::alloc::{AllocError, Global};
 
@@ -34,7 +34,7 @@ fn latest(fault: &calls_buffers::Fault) -> usize {
 fn refuse(
     alloc: Global,
     room: usize,
-    events: &Part<'_, '_>,
+    events: &Part<'_>,
     end: usize,
     upto: usize,
     fault: calls_buffers::Fault,
@@ -56,11 +56,13 @@ fn refuse(
         let beginning = events.first(mid);
         match calls_buffers::decide(alloc, room, &beginning, end)? {
             calls_buffers::Outcome::Refused(found) => {
+                drop(fault);
                 fault = found;
                 high = mid;
                 halves = !halves;
             }
-            calls_buffers::Outcome::Ordered(_) => {
+            calls_buffers::Outcome::Ordered(calls) => {
+                drop(calls);
                 low = mid;
                 halves = false;
             }
@@ -77,7 +79,7 @@ fn refuse(
 fn leave_open(
     alloc: Global,
     room: usize,
-    events: &Part<'_, '_>,
+    events: &Part<'_>,
     end: usize,
 ) -> Result<Decision, AllocError>
     requires history { IsHistoryOf (Buffer room) (reverse events.now) }
@@ -92,7 +94,10 @@ fn leave_open(
         let mid = next_between(low, high, 0, true);
         let beginning = events.first(mid);
         match calls_buffers::decide(alloc, room, &beginning, end)? {
-            calls_buffers::Outcome::Ordered(_) => low = mid,
+            calls_buffers::Outcome::Ordered(calls) => {
+                drop(calls);
+                low = mid;
+            }
             calls_buffers::Outcome::Refused(fault) => {
                 return refuse(alloc, room, events, end, mid, fault);
             }
@@ -106,7 +111,7 @@ fn leave_open(
 pub fn decide_buffer(
     alloc: Global,
     room: usize,
-    events: &Part<'_, '_>,
+    events: &Part<'_>,
     end: usize,
 ) -> Result<Decision, AllocError>
     requires history { IsHistoryOf (Buffer room) (reverse events.now) }
@@ -115,7 +120,7 @@ pub fn decide_buffer(
 {
     let count = events.len();
     if count == 0 {
-        return Ok(Decision::Ordered(PlacedCalls::new(alloc)));
+        return Ok(Decision::Ordered(CallList::new(alloc)));
     }
     match calls_buffers::decide(alloc, room, events, end)? {
         calls_buffers::Outcome::Ordered(calls) => Ok(Decision::Ordered(calls)),

@@ -9,7 +9,7 @@ ghost use Rattle.calls_verdict.specs.Misuses.{IsMisuseBy, IsFirstMisuse};
 ghost use Rattle.calls_verdict.specs.kept.Tests.{IsFirstMisuseBy};
 
 use crate::splitting::follow;
-use calls_core::{Action, Event, Kind, Op, PendingCall, Reply, find};
+use calls_core::{Action, Events, Kind, Op, PendingCall, Reply, find};
 use std::alloc::{AllocError, Global};
 
 /// Why events are no history.
@@ -69,12 +69,12 @@ fn pending_call(pending: &[PendingCall], worker: usize) -> Option<PendingCall>
 }
 
 /// Returns whether the position of an event is not after that of the event before it.
-fn is_out_of_order(events: &[Event], i: usize) -> bool
+fn is_out_of_order(events: &Events, i: usize) -> bool
     requires { i < length events.now }
     ensures { (x : Event) → slice_get events.now i ≡ Some x
         → (IsTrue result ↔ x.at < clock (past_at i events.now)) }
 {
-    i > 0 && events[i].at <= events[i - 1].at
+    i > 0 && events.at(i).at <= events.at(i - 1).at
 }
 
 /// Finds what is wrong with an action, if its worker has this pending call.
@@ -106,13 +106,14 @@ fn misuse_by(kinds: &[Kind], action: Action, pending: Option<PendingCall>) -> Op
 pub fn first_misuse(
     alloc: Global,
     kinds: &[Kind],
-    events: &[Event],
+    events: &Events,
 ) -> Result<Option<(usize, Misuse)>, AllocError>
     ensures { IfOk result (λ r. MatchOption r (IsHistory kinds.now (reverse events.now)) (λ w.
         IsFirstMisuse kinds.now events.now w.0 w.1)) }
 {
     let mut pending = Vec::new(alloc);
-    for (i, event) in events.iter().enumerate() {
+    for i in 0..events.len() {
+        let event = events.at(i);
         if is_out_of_order(events, i) {
             return Ok(Some((i, Misuse::OutOfOrder)));
         }
@@ -120,7 +121,7 @@ pub fn first_misuse(
         if let Some(misuse) = misuse_by(kinds, event.action, call) {
             return Ok(Some((i, misuse)));
         }
-        let _object = follow(&mut pending, event)?;
+        let _object = follow(&mut pending, &event)?;
     }
     Ok(None)
 }

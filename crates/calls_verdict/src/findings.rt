@@ -3,15 +3,14 @@ ghost use Rattle.std.specs.Prelude.{IfOk, OnOk};
 ghost use Rattle.calls_verdict.specs.kept.Findings.{HasRoom, IsAddedTo, IsEarlier, Gives};
 
 use crate::verdict::{Decision, Refusal, Undecided, Verdict};
-use calls_core::{Part, Placed};
-use calls_local::merge;
+use calls_core::{Order, Part};
 use std::alloc::AllocError;
 
 /// The decisions on the objects so far.
 #[derive(Debug, Drop)]
 pub struct Findings {
     /// The ordered calls of each object, with their linearization points.
-    pub placed: Vec<Placed>,
+    pub placed: Order,
     /// The refusal with the least position, if there is any.
     pub refusal: Option<Refusal>,
     /// The first object that isn't decided.
@@ -32,7 +31,7 @@ fn earlier(kept: Option<Refusal>, next: Refusal) -> Refusal
 pub fn add(
     found: &mut Findings,
     object: usize,
-    own: &Part<'_, '_>,
+    own: &Part<'_>,
     decision: Decision,
 ) -> Result<(), AllocError>
     requires { HasRoom own.now decision }
@@ -73,6 +72,6 @@ pub fn conclude(found: Findings) -> Result<Verdict, AllocError>
     if let Some(undecided) = undecided {
         return Ok(Verdict::NotDecided(undecided));
     }
-    merge(&mut placed)?;
+    placed.sort()?;
     Ok(Verdict::Linearizable(placed))
 }

@@ -10,7 +10,7 @@ use calls_core::{Kind, Part};
 use std::alloc::{AllocError, Global};
 
 /// Decides the calls of a cell. A database is decided as one.
-fn decide_cell(alloc: Global, events: &Part<'_, '_>, end: usize) -> Result<Decision, AllocError>
+fn decide_cell(alloc: Global, events: &Part<'_>, end: usize) -> Result<Decision, AllocError>
     requires history { IsHistoryOf Cell (reverse events.now) }
     requires end { clock (reverse events.now) ≤ end }
     ensures { IfOk result (IsDecision Cell events.now end) }
@@ -26,7 +26,7 @@ fn decide_cell(alloc: Global, events: &Part<'_, '_>, end: usize) -> Result<Decis
 pub fn decide_object(
     alloc: Global,
     kind: &Kind,
-    events: &Part<'_, '_>,
+    events: &Part<'_>,
     end: usize,
 ) -> Result<Decision, AllocError>
     requires history { IsHistoryOf kind.now (reverse events.now) }

@@ -1,10 +1,12 @@
 //! Splits the events of a history by their objects.
-ghost use Rattle.std.specs.Prelude.{◌≡◌, [], length, reverse, IfOk, OnOk};
+ghost use Rattle.std.specs.Prelude.{◌≡◌, List, [], length, map, reverse, IfOk, OnOk};
+ghost use Rattle.calls_core.specs.declared.history.Event.{Event};
+ghost use Rattle.calls_core.specs.Parts.{event_at, events_at};
 ghost use Rattle.calls_verdict.specs.kept.Parts.{IsFollowed, IsPart, IsAdded};
 ghost use Rattle.calls_verdict.specs.kept.Parts.{AreParts};
 ghost use Rattle.calls_core.specs.Lists.{EachFrom};
 
-use calls_core::{Action, Event, Kind, PartList, PendingCall, take_pending};
+use calls_core::{Action, Event, Events, Kind, PartList, PendingCall, take_pending};
 use std::alloc::{AllocError, Global};
 
 /// Updates the pending calls with an event, and returns the index of the event's object.
@@ -25,9 +27,10 @@ pub fn follow(pending: &mut Vec<PendingCall>, event: &Event) -> Result<Option<us
 }
 
 /// Returns `count` empty lists.
-fn empty_parts<'h>(alloc: Global, count: usize) -> Result<Vec<PartList<'h>>, AllocError>
+fn empty_parts(alloc: Global, count: usize) -> Result<Vec<PartList>, AllocError>
     ensures count { IfOk result (λ v. length v.items ≡ count) }
-    ensures empty { IfOk result (λ v. EachFrom (IsPart []) 0 v.items) }
+    ensures empty { IfOk result (λ v. (events : List Event)
+        → EachFrom (IsPart []) 0 (map (events_at events) v.items)) }
 {
     let mut parts = Vec::with_capacity(alloc, count)?;
     for _i in 0..count {
@@ -36,30 +39,28 @@ fn empty_parts<'h>(alloc: Global, count: usize) -> Result<Vec<PartList<'h>>, All
     Ok(parts)
 }
 
-/// Adds an event to the list of its object.
-fn add<'h>(parts: &mut Vec<PartList<'h>>, object: usize, event: &'h Event) -> Result<(), AllocError>
+/// Adds the index of an event to the list of its object.
+fn add(parts: &mut Vec<PartList>, object: usize, i: usize) -> Result<(), AllocError>
     ensures count { OnOk result (length parts.new.items ≡ length parts.old.items) }
-    ensures added { OnOk result (IsAdded object event.now parts.old.items parts.new.items) }
+    ensures added { OnOk result ((events : List Event) → IsAdded object (event_at events i)
+        (map (events_at events) parts.old.items) (map (events_at events) parts.new.items)) }
 {
     if object < parts.len() {
-        parts[object].push(event)?;
+        parts[object].push(i)?;
     }
     Ok(())
 }
 
-/// Lists for each object its own events.
-pub fn split<'h>(
-    alloc: Global,
-    kinds: &[Kind],
-    events: &'h [Event],
-) -> Result<Vec<PartList<'h>>, AllocError>
-    ensures { IfOk result (λ v. AreParts (length kinds.now) (reverse events.now) v.items) }
+/// Lists for each object its own events, by their indices.
+pub fn split(alloc: Global, kinds: &[Kind], events: &Events) -> Result<Vec<PartList>, AllocError>
+    ensures { IfOk result (λ v. AreParts (length kinds.now) (reverse events.now)
+        (map (events_at events.now) v.items)) }
 {
     let mut parts = empty_parts(alloc, kinds.len())?;
     let mut pending = Vec::new(alloc);
-    for event in events {
-        if let Some(object) = follow(&mut pending, event)? {
-            add(&mut parts, object, event)?;
+    for i in 0..events.len() {
+        if let Some(object) = follow(&mut pending, &events.at(i))? {
+            add(&mut parts, object, i)?;
         }
     }
     Ok(parts)

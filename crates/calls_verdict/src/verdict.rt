@@ -1,5 +1,5 @@
 //! The verdict on a history, and the decisions on its objects.
-use calls_core::{Placed, PlacedCalls};
+use calls_core::{CallList, Order};
 
 /// Why a history has no linearization: what its calls of one object show, by counting.
 #[derive(Debug, Drop)]
@@ -53,7 +53,7 @@ pub struct Undecided {
 pub enum Verdict {
     /// It has this one: the completed calls, and the pending ones that took effect, in order, each
     /// with its linearization point.
-    Linearizable(Vec<Placed>),
+    Linearizable(Order),
     /// It has none.
     Refused(Refusal),
     /// It has one exactly if the calls of this object have one, and those of the others that aren't
@@ -65,7 +65,7 @@ pub enum Verdict {
 #[derive(Debug, Drop)]
 pub enum Decision {
     /// They have this linearization.
-    Ordered(PlacedCalls),
+    Ordered(CallList),
     /// They have none, since the event at this index shows this fault.
     Refused(usize, Fault),
     /// They aren't decided from the event at this index on.

@@ -533,7 +533,7 @@ module _ (ps qs : List (List ℕ)) (q line : List ℕ) (old mid new : Watcher)
         → d.decided.verdict ≡ v → Ok u ≡ outcome_of v → IsGood e.whole
     good_decided later u d (verdicts.Linearizable order) is outcome =
         subst IsGood (same_whole later (Ok u) d).recorded
-        (good_by_order d.decided.read.recording order.items
+        (good_by_order d.decided.read.recording order
         (has_verdict later (Ok u) d (verdicts.Linearizable order) is))
     good_decided later u d (verdicts.Refused x) is outcome = absurd (let never : ⊥ = cc in never)
     good_decided later u d (verdicts.NotDecided x) is outcome = absurd (let never : ⊥ = cc in never)

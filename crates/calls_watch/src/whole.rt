@@ -34,6 +34,8 @@ pub(crate) fn decide_text(alloc: Global, text: &[u8], number: u64) -> Result<Dec
     else {
         return Err(Stop::Memory);
     };
+    // (there are no more events than a `usize` can say)
+    let _count = recording.events().len();
     let Ok(verdict) = decide(alloc, recording.kinds(), recording.events()) else {
         return Err(Stop::Memory);
     };

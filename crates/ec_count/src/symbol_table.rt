@@ -67,8 +67,8 @@ impl Word {
 pub struct SymbolTable {
     table: IndexMap<Word, Target>,
     /// For each mark the position at which a look-up looks first: that of the word with this mark
-    /// that was added last. Any positions would be correct.
-    hints: [usize; 256],
+    /// that was added last, modulo 65536. Any positions would be correct.
+    hints: [u16; 256],
 }
 
 impl Model for SymbolTable {
@@ -118,7 +118,7 @@ impl SymbolTable {
     fn find_at_hint(&self, word: &[u8]) -> Option<Target>
         ensures { IfSome result (λ target. find_name word.now self.now ≡ Some target) }
     {
-        let place = self.hints[mark(word) as usize];
+        let place = self.hints[mark(word) as usize] as usize;
         match self.table.get_index(place) {
             None => None,
             Some((known, target)) => {
@@ -163,7 +163,7 @@ impl SymbolTable {
             unreachable!();
         };
         let place = self.len();
-        self.hints[mark(word) as usize] = place;
+        self.hints[mark(word) as usize] = (place % 65536) as u16;
         let Ok(_) = self.table.insert(key, target) else {
             return Err(AllocError);
         };

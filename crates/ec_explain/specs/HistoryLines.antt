@@ -13,7 +13,7 @@ use Rattle.ec_explain.specs.declared.cause.Cause.TheVariants as causes
 use Rattle.ec_explain.specs.declared.finding.Finding.{Finding}
 use Rattle.ec_explain.specs.Causes.{first_failing, limit_cause}
 use Rattle.ec_explain.specs.Findings.{finding_by_bytes, finding_with_line}
-use Rattle.ec_explain.specs.Places.{word_at, is_listed_by, names_worker}
+use Rattle.ec_explain.specs.Places.{word_at, number_place, is_listed_by, names_worker}
 use Rattle.ec_explain.specs.RelatedLine.{line_with, object_line}
 use Rattle.ec_explain.specs.TextLines.{line_at}
 
@@ -116,11 +116,9 @@ unknown_finding n text line = if is_running n text then unknown_in_event n text 
 
 -- A NUMBER OUT OF RANGE
 
--- the index of the word that is the number: of a call, the limit, a line `from` or a declaration
-abbrev pub range_place : List ℕ → ℕ
-range_place line =
-    if bytes_eq (word_at 1 line) (codes "calls") then 4
-    else (if length (words_of line) == 2 then 1 else 2)
+-- the index of the word that is the number, in a call or in a line of the header
+abbrev pub range_place : ℕ → List ℕ → List ℕ → ℕ
+range_place n text line = if is_running n text then 4 else number_place line
 
 abbrev pub range_cause : ℕ → List ℕ → List ℕ → Cause
 range_cause n text line =
@@ -131,8 +129,8 @@ range_cause n text line =
 -- A CALL THAT IS NOT ALLOWED
 
 -- the index of the word that names the object, in a call or in a line `from`
-abbrev pub object_place : List ℕ → ℕ
-object_place line = if bytes_eq (word_at 1 line) (codes "calls") then 3 else 1
+abbrev pub object_place : ℕ → List ℕ → ℕ
+object_place n text = if is_running n text then 3 else 1
 
 -- the line that declares the object, and who may call it. A `pboth` needs three rights: no one line
 -- shows which is lacking

@@ -1,8 +1,7 @@
 -- What is wrong with a script and with a history of calls, by the kind of the fault that their
 -- readers report. Where the bytes of a line show no other cause, this one is shown at a word.
-use Rattle.std.specs.Prelude.{ℕ, ◌+◌, ◌==◌, List, length, bytes_eq, codes}
+use Rattle.std.specs.Prelude.{ℕ, ◌+◌, List, bytes_eq, codes}
 use Rattle.std.specs.Prelude.{Some, if◌then◌else◌}
-use Rattle.ec_text.specs.Words.{words_of}
 use Rattle.ec_script.specs.declared.fault.Kind as scripts
 use Rattle.ec_script.specs.declared.fault.Kind.TheVariants as script
 use Rattle.calls_text.specs.declared.fault.FaultKind as histories
@@ -14,12 +13,8 @@ use Rattle.ec_explain.specs.Causes.{first_cause, name_cause, new_name_place}
 use Rattle.ec_explain.specs.HistoryLines.{form_finding, unknown_finding}
 use Rattle.ec_explain.specs.HistoryLines.{range_cause, range_place, object_place, right_line_of}
 use Rattle.ec_explain.specs.RelatedLine.{call_line, line_with, object_line}
-use Rattle.ec_explain.specs.Places.{word_at}
+use Rattle.ec_explain.specs.Places.{word_at, number_place}
 use Rattle.ec_explain.specs.TextLines.{line_at}
-
--- the index of the word that is the number of a line of a header or of a command
-abbrev pub number_place : List ℕ → ℕ
-number_place line = if length (words_of line) == 2 then 1 else 2
 
 -- a line of a header that has a word where a name should be
 abbrev pub bad_name_at : ℕ → List ℕ → Finding
@@ -61,11 +56,11 @@ calls_line_finding calls.BadName n text line = bad_name_at n line
 calls_line_finding calls.NameTaken n text line = finding_by_bytes causes.NameTaken n 1 line
 calls_line_finding calls.UnknownName n text line = unknown_finding n text line
 calls_line_finding calls.BadNumber n text line =
-    finding_by_bytes (range_cause n text line) n (range_place line) line
+    finding_by_bytes (range_cause n text line) n (range_place n text line) line
 calls_line_finding calls.TooMany n text line = finding_by_bytes causes.Full n 0 line
 calls_line_finding calls.Hidden n text line =
-    finding_with_line causes.Hidden (object_place line)
-    (object_line (word_at (object_place line) line) n text) n line
+    finding_with_line causes.Hidden (object_place n text)
+    (object_line (word_at (object_place n text) line) n text) n line
 calls_line_finding calls.TwoRoles n text line = roles_at 2 n line
 calls_line_finding calls.NoRight n text line =
     finding_with_line causes.NoRole 0 (right_line_of n text line) n line

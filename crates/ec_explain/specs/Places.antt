@@ -18,6 +18,10 @@ abbrev pub behind_first : List (List ℕ) → List (List ℕ)
 behind_first [] = []
 behind_first (w ∷ ws) = ws
 
+-- the index of the word that is the number of a line of a header or of a command
+abbrev pub number_place : List ℕ → ℕ
+number_place line = if length (words_of line) == 2 then 1 else 2
+
 -- how many bytes come before the word at an index, each word before it with the space after it
 abbrev pub bytes_before : ℕ → List (List ℕ) → ℕ
 bytes_before k [] = 0

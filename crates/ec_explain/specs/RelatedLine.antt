@@ -1,9 +1,11 @@
 -- Which other line of a text shows why a line is rejected: where a call began, and where an object
 -- is declared.
 use Rattle.std.specs.Prelude.{ℕ, ◌+◌, ◌==◌, ◌&&◌, ◌||◌, not, Bool, List, [], ◌∷◌, take, min, Option}
-use Rattle.std.specs.Prelude.{Some, None, nat_lt, unwrap_or, bytes_eq, codes, if◌then◌else◌}
+use Rattle.std.specs.Prelude.{Some, None, is_some, nat_lt, unwrap_or, bytes_eq, codes}
+use Rattle.std.specs.Prelude.{if◌then◌else◌}
 use Rattle.std.specs.Option.{option_or}
 use Rattle.std.specs.List.{slice_split}
+use Rattle.ec_heading.specs.DeclKinds.{sort_of}
 use Rattle.ec_explain.specs.declared.related_line.Target.{Target}
 use Rattle.ec_explain.specs.declared.related_line.Target.TheVariants.{Call, Declaration, Hand}
 use Rattle.ec_explain.specs.declared.related_line.Target.TheVariants.{First, Object}
@@ -29,10 +31,9 @@ hands_by worker name line =
 abbrev pub begins_with_word : List ℕ → List ℕ → Bool
 begins_with_word w line = bytes_eq (word_at 0 line) w
 
--- whether the line of a history declares what is called so; a line `from` names it again
+-- whether the line of a header declares an object that is called so
 abbrev pub declares_object : List ℕ → List ℕ → Bool
-declares_object name line = bytes_eq (word_at 1 line) name
-    && not (bytes_eq (word_at 0 line) (codes "from"))
+declares_object name line = bytes_eq (word_at 1 line) name && is_some (sort_of (word_at 0 line))
 
 abbrev pub fits : Target → List ℕ → Bool
 fits (Call worker) line = begins_by worker.now line

@@ -15,7 +15,7 @@ use crate::head::{is_sort, limit_cause};
 use crate::lines::line_at;
 use crate::placing::first_failing;
 use crate::related_line::{line_with, object_line};
-use crate::words::{WordTest, is_same, names_worker, word_at};
+use crate::words::{WordTest, is_same, names_worker, number_place, word_at};
 use ec_heading::count_words;
 
 /// Returns the number of the first line of a line's history.
@@ -233,13 +233,14 @@ pub(crate) fn unknown_finding(number: u64, text: &[u8], line: &[u8]) -> Finding
 }
 
 /// Returns the index of the word that is a number out of range.
-pub(crate) fn range_place(line: &[u8]) -> usize
-    ensures { result ≡ range_place line.now }
+pub(crate) fn range_place(number: u64, text: &[u8], line: &[u8]) -> usize
+    ensures { result ≡ range_place number text.now line.now }
 {
-    if is_same(word_at(1, line), b"calls".as_slice()) {
-        return 4;
+    if is_running(number, text) {
+        4
+    } else {
+        number_place(line)
     }
-    if count_words(line) == 2 { 1 } else { 2 }
 }
 
 /// Returns what is wrong with a line that has a number out of range.
@@ -259,14 +260,10 @@ pub(crate) fn range_cause(number: u64, text: &[u8], line: &[u8]) -> Cause
 }
 
 /// Returns the index of the word that names the object, in a call or in a line `from`.
-pub(crate) fn object_place(line: &[u8]) -> usize
-    ensures { result ≡ object_place line.now }
+pub(crate) fn object_place(number: u64, text: &[u8]) -> usize
+    ensures { result ≡ object_place number text.now }
 {
-    if is_same(word_at(1, line), b"calls".as_slice()) {
-        3
-    } else {
-        1
-    }
+    if is_running(number, text) { 3 } else { 1 }
 }
 
 /// Returns the number of the line that declares the object of a call, and who may call it, unless

@@ -2,7 +2,7 @@
 ghost use Rattle.std.specs.Prelude.{◌≡◌, ◌≤◌};
 ghost use Rattle.calls_text.specs.declared.fault.FaultKind.TheVariants as faults;
 ghost use Rattle.ec_explain.specs.Kinds.{bad_name_at, calls_finding, calls_line_finding};
-ghost use Rattle.ec_explain.specs.Kinds.{number_place, roles_at, script_finding};
+ghost use Rattle.ec_explain.specs.Kinds.{roles_at, script_finding};
 
 use crate::cause::Cause;
 use crate::finding::{Finding, find_early_end, finding_by_bytes, finding_with_line};
@@ -12,17 +12,9 @@ use crate::history_lines::{
 };
 use crate::lines::line_at;
 use crate::related_line::{call_line, line_with, object_line};
-use crate::words::{is_same, word_at};
+use crate::words::{is_same, number_place, word_at};
 use calls_text::FaultKind;
-use ec_heading::count_words;
 use ec_script::Kind;
-
-/// Returns the index of the word that is the number of a line of a header or of a command.
-fn number_place(line: &[u8]) -> usize
-    ensures { result ≡ number_place line.now }
-{
-    if count_words(line) == 2 { 1 } else { 2 }
-}
 
 /// Returns what is wrong with a line of a header that has a word where a name should be.
 fn bad_name_at(number: u64, line: &[u8]) -> Finding
@@ -72,7 +64,7 @@ pub fn script_finding(kind: Kind, number: u64, text: &[u8]) -> Finding
 fn hidden_finding(number: u64, text: &[u8], line: &[u8]) -> Finding
     ensures { result ≡ calls_line_finding faults.Hidden number text.now line.now }
 {
-    let place = object_place(line);
+    let place = object_place(number, text);
     let declaration = object_line(word_at(place, line), number, text);
     finding_with_line(Cause::Hidden, place, declaration, number, line)
 }
@@ -98,7 +90,7 @@ fn calls_line_finding(kind: FaultKind, number: u64, text: &[u8], line: &[u8]) ->
         FaultKind::UnknownName => unknown_finding(number, text, line),
         FaultKind::BadNumber => {
             let cause = range_cause(number, text, line);
-            finding_by_bytes(cause, number, range_place(line), line)
+            finding_by_bytes(cause, number, range_place(number, text, line), line)
         }
         FaultKind::TooMany => finding_by_bytes(Cause::Full, number, 0, line),
         FaultKind::Hidden => hidden_finding(number, text, line),

@@ -4,6 +4,7 @@ ghost use Rattle.ec_explain.specs.RelatedLine.{base_of, call_line, declaration_l
 ghost use Rattle.ec_explain.specs.RelatedLine.{hand_line, last_in, lines_of, right_line};
 ghost use Rattle.ec_explain.specs.RelatedLine.{line_with, only_after, object_line};
 
+use crate::head::is_sort;
 use crate::history_lines::opening_line;
 use crate::lines::{line_at, position_or_end, text_before_line};
 use crate::words::{is_same, word_at};
@@ -20,7 +21,7 @@ enum Target<'a> {
     Hand(&'a [u8], &'a [u8]),
     /// A line that begins with this word.
     First(&'a [u8]),
-    /// The line of a history that declares what is called so.
+    /// The line of a header that declares an object that is called so.
     Object(&'a [u8]),
 }
 
@@ -41,9 +42,7 @@ fn fits(sought: &Target<'_>, line: &[u8]) -> bool
                     && is_same(word_at(2, line), name))
         }
         Target::First(word) => is_same(word_at(0, line), word),
-        Target::Object(name) => {
-            is_same(word_at(1, line), name) && !is_same(word_at(0, line), b"from".as_slice())
-        }
+        Target::Object(name) => is_same(word_at(1, line), name) && is_sort(word_at(0, line)),
     }
 }
 

@@ -3,10 +3,10 @@ ghost use Rattle.std.specs.Prelude.{◌≡◌, ◌≤◌, ◌+◌, bytes_eq, len
 ghost use Rattle.std.specs.List.{list_any};
 ghost use Rattle.ec_text.specs.Words.{words_of};
 ghost use Rattle.ec_explain.specs.Places.{word_at, bytes_before, word_start, words_before};
-ghost use Rattle.ec_explain.specs.Places.{word_test, is_among, names_worker};
+ghost use Rattle.ec_explain.specs.Places.{word_test, is_among, names_worker, number_place};
 
 use ec_count::is_name;
-use ec_heading::Heading;
+use ec_heading::{Heading, count_words};
 use ec_text::{cut_word, number};
 
 /// The words that precede a list of workers in a declaration.
@@ -40,6 +40,13 @@ pub(crate) fn word_at(place: usize, line: &[u8]) -> &[u8]
         None => &[],
         Some(rest) => word_at(place - 1, rest),
     }
+}
+
+/// Returns the index of the word that is the number of a line of a header or of a command.
+pub(crate) fn number_place(line: &[u8]) -> usize
+    ensures { result ≡ number_place line.now }
+{
+    if count_words(line) == 2 { 1 } else { 2 }
 }
 
 /// Returns how many bytes come before the word at an index.

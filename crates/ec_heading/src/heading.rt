@@ -21,7 +21,7 @@ use crate::entry_words::{closed_number, cut_at};
 use crate::form::{Parts, split_declaration};
 use crate::group::Group;
 use crate::kinds::{declaration_fault, size_of, workers_fault};
-use crate::lists::{push_ids, worker_in};
+use crate::lists::{count_words, push_ids, worker_in};
 use crate::objects::{add_objects, spell_objects, target_of};
 use crate::version::Version;
 use arrayvec::ArrayVec;
@@ -94,7 +94,8 @@ impl HeadFault {
 #[derive(Drop)]
 pub struct Heading {
     pub(crate) version: Version,
-    pub(crate) setup: Setup,
+    /// Boxed, since a `Setup` is large and a header is moved.
+    pub(crate) setup: Box<Setup>,
     pub(crate) names: Names,
     pub(crate) words: SymbolTable,
     pub(crate) groups: Vec<Group>,
@@ -108,9 +109,9 @@ impl Model for Heading {
 
     ghost use Rattle.ec_heading.specs.HeadingInvariant.{IsHeading};
 
-    ghost view = { λ h. record { version = h.version; setup = h.setup; names = h.names; words = h.words; groups = h.groups.items; declarations = h.declarations.items } };
+    ghost view = { λ h. record { version = h.version; setup = h.setup.value; names = h.names; words = h.words; groups = h.groups.items; declarations = h.declarations.items } };
 
-    ghost invariant = { λ h. IsHeading (record { version = h.version; setup = h.setup; names = h.names; words = h.words; groups = h.groups.items; declarations = h.declarations.items }) };
+    ghost invariant = { λ h. IsHeading (record { version = h.version; setup = h.setup.value; names = h.names; words = h.words; groups = h.groups.items; declarations = h.declarations.items }) };
 }
 
 /// Returns the names that a line of workers lists, if it has that form.
@@ -128,21 +129,20 @@ fn worker_list(line: &[u8]) -> Option<&[u8]>
     }
 }
 
-/// Adds the workers of a list in order.
-fn add_workers(
+/// Adds the names of the workers of a list, from `number` on.
+fn name_workers(
     names: &mut Names,
     words: &mut SymbolTable,
-    setup: &mut Setup,
+    number: usize,
     list: &[u8],
 ) -> Result<(), NameFault>
-    requires room { setup.old.workers + length (words_of list.now) ≤ 16 }
+    requires room { number + length (words_of list.now) ≤ 16 }
     requires same { words.old ≡ names.old }
-    ensures names { OnOk result (names.new ≡ names.old ++ number_names setup.old.workers (words_of list.now)) }
-    ensures words { OnOk result (words.new ≡ words.old ++ number_names setup.old.workers (words_of list.now)) }
-    ensures setup { OnOk result (setup.new ≡ record setup.old { workers = setup.old.workers + length (words_of list.now) }) }
+    ensures names { OnOk result (names.new ≡ names.old ++ number_names number (words_of list.now)) }
+    ensures words { OnOk result (words.new ≡ words.old ++ number_names number (words_of list.now)) }
 {
     let (word, rest) = cut_word(list);
-    let Ok(worker) = setup.add_worker() else {
+    let Some(worker) = WorkerId::new(number) else {
         unreachable!();
     };
     names.add_bytes(word, Target::Worker(worker))?;
@@ -151,7 +151,19 @@ fn add_workers(
     }
     match rest {
         None => Ok(()),
-        Some(rest) => add_workers(names, words, setup, rest),
+        Some(rest) => name_workers(names, words, number + 1, rest),
+    }
+}
+
+/// Declares `count` workers.
+fn add_workers(setup: &mut Setup, count: usize)
+    requires { setup.old.workers + count ≤ 16 }
+    ensures { setup.new ≡ record setup.old { workers = setup.old.workers + count } }
+{
+    for _worker in 0..count {
+        let Ok(_) = setup.add_worker() else {
+            unreachable!();
+        };
     }
 }
 
@@ -166,7 +178,7 @@ impl Heading {
     {
         Ok(Heading {
             version,
-            setup: Setup::new(limit),
+            setup: Box::new(alloc, Setup::new(limit))?,
             names: Names::new(alloc)?,
             words: SymbolTable::new(alloc)?,
             groups: Vec::new(alloc),
@@ -192,8 +204,9 @@ impl Heading {
         }
     }
 
-    /// Adds the line of the workers.
+    /// Adds the line of the workers. Nothing is declared before it.
     fn take_workers(&mut self, line: &[u8]) -> Result<(), HeadFault>
+        requires { self.old.setup.workers ≡ 0 }
         ensures { Steps result self.old self.new (opened_by self.old.version self.old.setup.limit (workers_in (words_of line.now))) }
     {
         let Some(list) = worker_list(line) else {
@@ -202,6 +215,7 @@ impl Heading {
         if let Some(fault) = workers_fault(list) {
             return Err(fault);
         }
+        self.setup.invariant();
         let alloc = *self.declarations.allocator();
         let Ok(mut names) = Names::new(alloc) else {
             return Err(HeadFault::Memory);
@@ -209,18 +223,12 @@ impl Heading {
         let Ok(mut words) = SymbolTable::new(alloc) else {
             return Err(HeadFault::Memory);
         };
-        let mut setup = Setup::new(self.setup.limit());
-        let Ok(()) = add_workers(&mut names, &mut words, &mut setup, list) else {
+        let Ok(()) = name_workers(&mut names, &mut words, 0, list) else {
             return Err(HeadFault::Memory);
         };
-        *self = Heading {
-            version: self.version,
-            setup,
-            names,
-            words,
-            groups: Vec::new(alloc),
-            declarations: Vec::new(alloc),
-        };
+        add_workers(&mut self.setup, count_words(list));
+        self.names = names;
+        self.words = words;
         Ok(())
     }
 

@@ -32,7 +32,7 @@ pub use reading_laws::{
     read_is_trace, trace_has_one_meaning, trace_is_read, traces_are_prefix_free,
     traces_are_upgraded, traces_have_64_mebibytes_at_most, written_is_read_again,
 };
-pub use spell::Spellings;
+pub use spell::{Spellings, WordTables};
 pub use traced::Traced;
 pub use write::{
     DecimalCache, put_act, put_cell, put_entry, put_next_entry, put_reply, write_entry, write_trace,

@@ -1,6 +1,6 @@
 //! Tables of the words for workers and objects.
 ghost use Rattle.std.specs.Prelude.{◌≡◌, ℕ, ◌+◌, ◌<◌, ◌-◌, ◌==◌, ◌&&◌, [], ◌∷◌, ◌++◌, List, length, Some, slice_get, nat_le, nat_lt, if◌then◌else◌};
-ghost use Rattle.ec_trace.specs.kept.WordTables.{Spells, word_at, cell_at, cell_name_bytes, with_block, short_at};
+ghost use Rattle.ec_trace.specs.kept.WordTables.{Spells, SpellsShort, word_at, cell_at, cell_name_bytes, with_block, short_at};
 ghost use Rattle.ec_text.specs.Puts.{Puts};
 ghost use Rattle.ec_heading.specs.Spelling.{NameTable, target_name, cell_word};
 ghost use Rattle.std.specs.Option.{option_map_or};
@@ -56,28 +56,27 @@ impl<'a> WordTable<'a> {
     }
 }
 
-/// The words by which entries name workers and objects, in tables; short ones as inline texts.
+/// The words by which entries name workers and objects, in tables.
 #[derive(Drop)]
-pub struct Spellings<'a> {
+pub struct WordTables<'a> {
     vocabulary: &'a SymbolTable,
     words: WordTable<'a>,
-    short: ShortWords,
 }
 
-impl<'a> Model for Spellings<'a> {
+impl<'a> Model for WordTables<'a> {
     ghost use Rattle.std.specs.Prelude.{ℕ, List};
     ghost use Rattle.ec_count.specs.declared.target.Target.{Target};
 
     ghost Value = { List (List ℕ × Target) };
 
-    ghost use Rattle.ec_trace.specs.kept.WordTables.{Spells, SpellsShort};
+    ghost use Rattle.ec_trace.specs.kept.WordTables.{Spells};
 
     ghost view = { λ s. s.vocabulary.now };
 
-    ghost invariant = { λ s. (Spells s.vocabulary.now s.words) × (SpellsShort s.vocabulary.now s.short) };
+    ghost invariant = { λ s. Spells s.vocabulary.now s.words };
 }
 
-impl<'a> Spellings<'a> {
+impl<'a> WordTables<'a> {
     /// Returns the words of a header, from its `Heading::words`. It allocates nothing.
     pub fn new(vocabulary: &'a SymbolTable) -> Self
         ensures { result ≡ vocabulary.now }
@@ -88,12 +87,7 @@ impl<'a> Spellings<'a> {
                 words.take_in(word, target);
             }
         }
-        let short = ShortWords::of(&words);
-        Spellings {
-            vocabulary,
-            words,
-            short,
-        }
+        WordTables { vocabulary, words }
     }
 
     /// Returns the name of a worker; empty if it has none.
@@ -115,6 +109,80 @@ impl<'a> Spellings<'a> {
         ensures { result.now ≡ target_name self.now (Sequencer sequencer) }
     {
         word_in(&self.words.sequencers, sequencer.get())
+    }
+
+    /// Puts the name of a cell, part by part.
+    pub fn put_cell<W: Write>(&self, out: &mut Output<'_, W>, cell: CellId)
+        ensures { Puts out.old out.new (cell_word self.now cell) }
+    {
+        if let Some(name) = cell_in(&self.words.cells, cell.get()) {
+            out.put(name.block);
+            out.put_byte(b'[');
+            out.put_number(name.place as u64);
+            out.put_byte(b']');
+        }
+    }
+
+    /// Returns the inline texts of the words that are short.
+    fn short_words(&self) -> ShortWords
+        ensures { SpellsShort self.now result }
+    {
+        ShortWords::of(&self.words)
+    }
+}
+
+/// The words by which entries name workers and objects; short ones also as inline texts, which are
+/// written fast.
+#[derive(Drop)]
+pub struct Spellings<'a> {
+    tables: WordTables<'a>,
+    short: ShortWords,
+}
+
+impl<'a> Model for Spellings<'a> {
+    ghost use Rattle.std.specs.Prelude.{ℕ, List};
+    ghost use Rattle.ec_count.specs.declared.target.Target.{Target};
+
+    ghost Value = { List (List ℕ × Target) };
+
+    ghost use Rattle.ec_trace.specs.kept.WordTables.{SpellsShort};
+
+    ghost view = { λ s. s.tables };
+
+    ghost invariant = { λ s. SpellsShort s.tables s.short };
+}
+
+impl<'a> Spellings<'a> {
+    /// Returns the words of a header, from its `Heading::words`. It allocates nothing.
+    ///
+    /// Where few words are written, `WordTables` take less time to make.
+    pub fn new(vocabulary: &'a SymbolTable) -> Self
+        ensures { result ≡ vocabulary.now }
+    {
+        let tables = WordTables::new(vocabulary);
+        let short = tables.short_words();
+        Spellings { tables, short }
+    }
+
+    /// Returns the name of a worker; empty if it has none.
+    pub fn worker(&self, worker: WorkerId) -> &'a [u8]
+        ensures { result.now ≡ target_name self.now (Worker worker) }
+    {
+        self.tables.worker(worker)
+    }
+
+    /// Returns the name of an eventcount; empty if it has none.
+    pub fn event(&self, event: EventId) -> &'a [u8]
+        ensures { result.now ≡ target_name self.now (Event event) }
+    {
+        self.tables.event(event)
+    }
+
+    /// Returns the name of a sequencer; empty if it has none.
+    pub fn sequencer(&self, sequencer: SeqId) -> &'a [u8]
+        ensures { result.now ≡ target_name self.now (Sequencer sequencer) }
+    {
+        self.tables.sequencer(sequencer)
     }
 
     /// Puts bytes, and the name of a worker.
@@ -161,19 +229,14 @@ impl<'a> Spellings<'a> {
         }
     }
 
-    /// Puts bytes, and the name of a cell, part by part.
+    /// Puts bytes, and the name of a cell that may be long.
     #[cold]
     #[inline(never)]
     fn put_long_cell<W: Write>(&self, out: &mut Output<'_, W>, before: &[u8], cell: CellId)
         ensures { Puts out.old out.new (before.now ++ cell_word self.now cell) }
     {
         out.put(before);
-        if let Some(name) = cell_in(&self.words.cells, cell.get()) {
-            out.put(name.block);
-            out.put_byte(b'[');
-            out.put_number(name.place as u64);
-            out.put_byte(b']');
-        }
+        self.tables.put_cell(out, cell);
     }
 }
 

@@ -7,7 +7,7 @@ ghost use Rattle.evc_explain_engine.specs.Good.{good_text, is_invocation, ordere
 ghost use Rattle.ec_script.specs.Outcome.{shown_plan};
 
 use crate::explanation::{put_count, whole};
-use calls_core::{Action, Event};
+use calls_core::{Action, Event, Events};
 use calls_report::put_remarks_on;
 use calls_text::{Read, Recording};
 use ec_core::{Act, Entry, Run};
@@ -61,10 +61,16 @@ fn is_invocation(event: &Event) -> bool
 }
 
 /// Returns how many calls events have, with pending ones.
-fn calls_in(events: &[Event]) -> usize
+fn calls_in(events: &Events) -> usize
     ensures { result ≡ calls_in events.now }
 {
-    events.iter().filter(|event| is_invocation(event)).count()
+    let mut count = 0;
+    for i in 0..events.len() {
+        if is_invocation(&events.at(i)) {
+            count += 1;
+        }
+    }
+    count
 }
 
 /// Puts that calls are linearizable, and how many calls and workers the history has.

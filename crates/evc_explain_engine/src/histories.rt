@@ -16,7 +16,7 @@ ghost use Rattle.evc_explain_engine.specs.Histories.{clash_marks, item_marks, ma
 
 use crate::explanation::{Explanation, explain_finding, whole};
 use crate::good::ordered_bytes;
-use calls_core::{Call, Event};
+use calls_core::{Call, Part};
 use calls_report::{report_refusal, report_undecided};
 use calls_schedule::Bound;
 use calls_shapes::faulty_calls;
@@ -125,7 +125,7 @@ fn marks_of(alloc: Global, fault: &Fault) -> Result<Vec<usize>, AllocError>
 /// the first faulty event.
 fn named_positions(
     alloc: Global,
-    events: &[Event],
+    events: &Part<'_>,
     refusal: &Refusal,
 ) -> Result<Vec<usize>, AllocError>
     ensures { IfOk result (λ ps. ps.items ≡ named_positions events.now refusal.now) }
@@ -266,7 +266,7 @@ fn explain_refused(
     requires { IsRefused read.now.recording refusal.now }
     ensures { IfOk result (ExplainsRefused text.now read.now.number read.now.recording) }
 {
-    let positions = named_positions(alloc, read.recording.events(), refusal)?;
+    let positions = named_positions(alloc, &Part::whole(read.recording.events()), refusal)?;
     let mut bytes = Vec::new(alloc);
     let mut out = Output::new(&mut bytes);
     report_refusal(alloc, &mut out, read, refusal)?;
@@ -330,6 +330,8 @@ fn judge(alloc: Global, text: &[u8], read: &Read<'_>) -> Result<Option<Explanati
     ensures { IfOk result (Judges text.now read.now.number read.now.recording) }
 {
     let recording = &read.recording;
+    // (there are no more events than a `usize` can say)
+    let _count = recording.events().len();
     match decide(alloc, recording.kinds(), recording.events())? {
         Verdict::Linearizable(_) => Ok(None),
         Verdict::Refused(refusal) => Ok(Some(explain_refused(alloc, text, read, &refusal)?)),

@@ -1,5 +1,5 @@
 -- How the parts of `check` end.
-use Rattle.std.specs.Prelude.{◌≡◌, ℕ, List, codes}
+use Rattle.std.specs.Prelude.{◌≡◌, ◌⊎◌, ℕ, List, codes}
 use Rattle.ec_text.specs.Puts.{OutputModel, Puts}
 use Rattle.calls_core.specs.declared.history.Placed.{Placed}
 use Rattle.calls_verdict.specs.declared.verdict.Refusal.{Refusal}
@@ -13,6 +13,7 @@ use Rattle.calls_report.specs.declared.checking.Stop.TheVariants as stops
 use Rattle.calls_report.specs.declared.status.Status.{Status}
 use Rattle.calls_report.specs.declared.status.Status.TheVariants as statuses
 use Rattle.calls_report.specs.Notes.{site_of, SaysRefusal, undecided_note}
+use Rattle.calls_report.specs.Remarks.{remarks_text}
 use Rattle.calls_report.specs.Checks.{JudgedHistory, HasOrder, IsRefused, IsUndecided, history_text, texts_of}
 use Rattle.calls_report.specs.Checks.{remarks_on, AreJudged, IsJudged}
 
@@ -46,6 +47,23 @@ abbrev pub Judges : Status → List ℕ → OutputModel → OutputModel → Outp
 Judges status text old new old_notes new_notes =
     (judged : List JudgedHistory) × IsJudged status text judged old_notes new_notes
     × Puts old new (texts_of judged)
+
+-- how the judging of a history ended; n is the line after its `end`
+abbrev pub JudgesOne : Status → ℕ → RecordingModel → OutputModel → OutputModel → OutputModel
+    → OutputModel → Type 0
+JudgesOne status n r old new old_notes new_notes =
+    ((status ≡ statuses.Done) × PutsOrder r old new × Puts old_notes new_notes (remarks_text n r))
+    ⊎ ((stop : Stop) × (mid : OutputModel) × (status ≡ status_by stop) × (new ≡ old)
+    × StopsBy n r old_notes mid stop × EndsBy stop mid new_notes)
+
+-- this is the last history of a text, and the ones before were judged: however its own judging ends,
+-- the text is judged so
+abbrev pub IsLast : List ℕ → ℕ → RecordingModel → OutputModel → OutputModel → OutputModel
+    → OutputModel → Type 0
+IsLast text n r old mid old_notes mid_notes =
+    (status : Status) (new new_notes : OutputModel)
+    → JudgesOne status n r mid new mid_notes new_notes
+    → Judges status text old new old_notes new_notes
 
 -- the histories of a text up to line n were judged, and their texts and the remarks on them were
 -- put; this is the rest

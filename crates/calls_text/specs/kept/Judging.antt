@@ -36,7 +36,7 @@ spent_at limit t w verbs.Advance (objects.Event e) = nat_le limit (tally_at t w 
 spent_at limit t w _ _ = false
 
 abbrev pub spent_by : Running → ℕ → OpWord → Object → Bool
-spent_by r w v o = spent_at r.recording.heading.setup.limit r.tally w v o
+spent_by r w v o = spent_at r.recording.heading.setup.limit r.tally.value w v o
 
 -- the worker and the action of an event, and the lists after it
 pub record NextEvent : Type 0 where
@@ -114,7 +114,7 @@ pub record StateAfterEvent (old new : Running) (x : Event) : Type 0 where
   pub at : x.at ≡ old.count
   pub count : new.count ≡ old.count + 1
   pub pending : new.pending.items ≡ pending_after x x.action old.pending.items
-  pub tally : IsTallied old.tally new.tally x
+  pub tally : IsTallied old.tally.value new.tally.value x
   pub recording : new.recording ≡ record old.recording { lists = new.recording.lists }
   pub next : MayComeBy old x
 

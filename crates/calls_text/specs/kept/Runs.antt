@@ -19,7 +19,7 @@ use Rattle.ec_heading.specs.declared.group.Group.TheVariants as groups
 -- these were the events so far, whether they are stored or not
 pub record IsRunning (events : List Event) (r : Running) : Type 0 where
   pub pending : r.pending.items ≡ pending_calls (reverse events)
-  pub counted : IsTallyOf r.tally events
+  pub counted : IsTallyOf r.tally.value events
   pub count : r.count ≡ length events
   pub declared : IsDeclared r.recording.heading.setup
 

@@ -48,7 +48,7 @@ pub record AreFound (kinds : List Kind) (past : List Event) (n : ℕ) (found : F
   pub refused : IsRefused kinds past found.refusal
   pub undecided : IsOpen kinds past found.undecided
   pub placed : found.refusal ≡ None → found.undecided ≡ None
-      → ArePlaced kinds past n found.placed.items
+      → ArePlaced kinds past n found.placed
 
 -- the index in a refusal is that of an event
 abbrev pub HasRoom : List Event → Decision → Type 0

@@ -75,7 +75,7 @@ ReturnsText _ _ = ⊥
 
 -- what a verdict says of a history
 abbrev pub HasVerdict : RecordingModel → Verdict → Type 0
-HasVerdict r (verdicts.Linearizable order) = HasOrder r order.items
+HasVerdict r (verdicts.Linearizable order) = HasOrder r order
 HasVerdict r (verdicts.Refused x) = IsRefused r x
 HasVerdict r (verdicts.NotDecided u) = IsUndecided r u
 

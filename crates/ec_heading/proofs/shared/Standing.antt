@@ -40,18 +40,6 @@ use Rattle.ec_heading.proofs.WorkersLine.{are_workers}
 pub list_has_words : (list : List ℕ) → HasWords (words_of list)
 list_has_words list = let f = has_first list in (f.first, f.others, f.is)
 
-pub opens : (version : Version) (limit : ℕ) (list : List ℕ) (setup : Tables) (names words : List (List ℕ × Target)) (groups : List Group) (declarations : List Target) → 1 ≤ limit → limit ≤ greatest_limit version
-    → workers_fault (words_of list) ≡ None
-    → setup ≡ record (empty_tables limit) { workers = 0 + length (words_of list) } → names ≡ [] ++ number_names 0 (words_of list) → words ≡ [] ++ number_names 0 (words_of list) → groups ≡ [] → declarations ≡ []
-    → IsHeading (record { version = version; setup = setup; names = names; words = words; groups = groups; declarations = declarations })
-opens version limit list setup names words groups declarations low high none setup_is names_is words_is groups_is declarations_is = inr (record {
-  outline = record { version = version; limit = limit; workers = words_of list; declarations = [] };
-  is = record { low = low; high = high; workers = are_workers (words_of list) (list_has_words list) none; declarations = tt };
-  declares =
-      let s : record (empty_tables limit) { workers = length (words_of list) } ≡ setup = ap (λ n. record (empty_tables limit) { workers = n }) (sym (zero-add (length (words_of list)))) ∙ sym setup_is in
-      cc (s, names_is, words_is, groups_is, declarations_is);
-})
-
 -- ONE MORE DECLARATION
 
 all_more : (h : HeadingModel) (ds : List Declaration) (d : Declaration) → with_declarations h (ds ++ d ∷ []) ≡ with_declaration (with_declarations h ds) d
@@ -84,6 +72,36 @@ pub has_outline : (h : HeadingModel) → IsHeading h → h.setup.workers ≢ 0 �
 has_outline h (inl (is, within)) some =
     absurd (some (ap (λ (g : HeadingModel). g.setup.workers) is))
 has_outline h (inr has) some = has
+
+-- and one that declares none declares nothing
+pub none_declared : (h : HeadingModel) → IsHeading h → h.setup.workers ≡ 0 → h ≡ empty_heading h.version h.setup.limit []
+none_declared h (inl (is, within)) none = is
+none_declared h (inr has) none =
+    absurd (let count = (outline_heads h has).count in let some = has.is.workers.some in omega (arith, count, none, some))
+
+-- the header after the line of its workers, by its parts
+pub opened_now : (h : HeadingModel) (ws : List (List ℕ)) (setup : Tables) (names words : List (List ℕ × Target)) → IsHeading h → h.setup.workers ≡ 0
+    → setup ≡ record h.setup { workers = h.setup.workers + length ws } → names ≡ [] ++ number_names 0 ws → words ≡ [] ++ number_names 0 ws
+    → empty_heading h.version h.setup.limit ws ≡ record { version = h.version; setup = setup; names = names; words = words; groups = h.groups; declarations = h.declarations }
+opened_now h ws setup names words is none setup_is names_is words_is =
+    let e = none_declared h is none in
+    let s : record (empty_tables h.setup.limit) { workers = length ws } ≡ setup =
+    ap (λ n. record (empty_tables h.setup.limit) { workers = n }) (sym (zero-add (length ws)))
+    ∙ ap (λ (t : Tables). record t { workers = t.workers + length ws }) (sym (ap (λ (g : HeadingModel). g.setup) e))
+    ∙ sym setup_is in
+    let groups : h.groups ≡ [] = ap (λ (g : HeadingModel). g.groups) e in
+    let declarations : h.declarations ≡ [] = ap (λ (g : HeadingModel). g.declarations) e in
+    cc (s, names_is, words_is, groups, declarations)
+
+pub opens : (h : HeadingModel) (list : List ℕ) (setup : Tables) (names words : List (List ℕ × Target)) → IsHeading h → h.setup.workers ≡ 0 → 1 ≤ h.setup.limit → h.setup.limit ≤ greatest_limit h.version
+    → workers_fault (words_of list) ≡ None
+    → setup ≡ record h.setup { workers = h.setup.workers + length (words_of list) } → names ≡ [] ++ number_names 0 (words_of list) → words ≡ [] ++ number_names 0 (words_of list)
+    → IsHeading (record { version = h.version; setup = setup; names = names; words = words; groups = h.groups; declarations = h.declarations })
+opens h list setup names words is none low high no_fault setup_is names_is words_is = inr (record {
+  outline = record { version = h.version; limit = h.setup.limit; workers = words_of list; declarations = [] };
+  is = record { low = low; high = high; workers = are_workers (words_of list) (list_has_words list) no_fault; declarations = tt };
+  declares = opened_now h (words_of list) setup names words is none setup_is names_is words_is;
+})
 
 pub has_outline_from : (h : HeadingModel) → IsHeading h → 1 ≤ h.setup.workers → HasHeaderTree h
 has_outline_from h is some = has_outline h is (λ e. (omega (arith, e)))

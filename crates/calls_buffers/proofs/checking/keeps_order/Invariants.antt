@@ -2,5 +2,5 @@ use Rattle.std.proofs.Common.{◌↔◌, drop}
 use Rattle.calls_buffers.proofs.Checks.{Rises}
 use Rattle.calls_buffers.proofs.checking.keeps_order.Given as goal
 
-abbrev pub invariant-loop-call : goal.invariant-loop-call
-invariant-loop-call l = Rises 0 l.calls ↔ Rises l.latest (drop l.call-index l.calls)
+abbrev pub invariant-loop-i : goal.invariant-loop-i
+invariant-loop-i l = Rises 0 l.calls ↔ Rises l.latest (drop l.i l.calls)

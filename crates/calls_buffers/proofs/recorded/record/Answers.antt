@@ -1,12 +1,9 @@
-use Rattle.std.proofs.Common.{arith}
-use Rattle.calls_buffers.proofs.Events.{noted_more}
+use Rattle.std.proofs.Common.{◌∙◌, ap, reverse}
+use Rattle.std.proofs.lemmas.List.{reverse-reverse}
+use Rattle.calls_core.specs.Histories.{completed_calls}
 use Rattle.calls_buffers.proofs.recorded.record.Goals as goal
 
-pub loop-i-preserved : goal.loop-i-preserved
-loop-i-preserved c =
-    let l = c.loop-i in
-    let noted = noted_more c.args.events.now l.i c.at.result.now l.done.items
-    c.note.new.done.items l.pending.items c.note.new.pending.items
-    (omega (arith, c.loop-i-test.true, c.len-i-end.ensures)) (c.at.ensures c.at.result.now)
-    l.invariant.done l.invariant.pending c.in_ok-note.ensures.calls c.in_ok-note.ensures.pending in
-    record { done = noted.0; pending = noted.1 }
+pub returns-clause-done : goal.returns-clause-done
+returns-clause-done c =
+    c.in_ok-reversed.ensures ∙ ap reverse c.in_ok-done.ensures.done
+    ∙ reverse-reverse (completed_calls (reverse c.args.events.now))

@@ -25,7 +25,7 @@ overflow_add-end c =
     let room = c.requires.room in
     let le = clock_at c.requires.store.0 n events c.requires.store.2 in
     let is = clock_is (n - 1) n events none (omega arith) (omega arith) in
-    omega (arith, is, ap (λ (x : Event). x.at) (c.at.ensures none))
+    omega (arith, is, ap (λ (x : Event). x.at) (c.at-end.ensures none))
 
 pub returns-in-Ordered : goal.returns-in-Ordered
 returns-in-Ordered c = λ kind store.
@@ -34,9 +34,9 @@ returns-in-Ordered c = λ kind store.
     let past = past_at n events in
     let some = c.requires.some in
     let within = c.requires.within in
-    let end = c.at.result.now.at + 1 in
+    let end = c.at-end.result.at + 1 in
     let is : clock past ≡ end = clock_is (n - 1) n events none (omega arith) (omega arith)
-    ∙ ap (λ (x : Event). x.at + 1) (sym (c.at.ensures none)) in
+    ∙ ap (λ (x : Event). x.at + 1) (sym (c.at-end.ensures none)) in
     let verdict = subst (IsVerdict past end) c.in-Ordered.is (c.in_ok-judge.ensures past
     (store_at n events c.requires.store) (omega (arith, is))
     (distinct_at n events c.requires.store c.requires.distinct)
@@ -55,9 +55,9 @@ returns c =
     let past = past_at n events in
     let some = c.requires.some in
     let within = c.requires.within in
-    let end = c.at.result.now.at + 1 in
+    let end = c.at-end.result.at + 1 in
     let is : clock past ≡ end = clock_is (n - 1) n events none (omega arith) (omega arith)
-    ∙ ap (λ (x : Event). x.at + 1) (sym (c.at.ensures none)) in
+    ∙ ap (λ (x : Event). x.at + 1) (sym (c.at-end.ensures none)) in
     subst (IsVerdict past end) c.in-Faulty.is (c.in_ok-judge.ensures past
     (store_at n events c.requires.store) (omega (arith, is))
     (distinct_at n events c.requires.store c.requires.distinct)

@@ -10,8 +10,8 @@ use Rattle.calls_distinct.proofs.nowhere.first_nowhere.Goals as goal
 pub returns-then-is_nowhere : goal.returns-then-is_nowhere
 returns-then-is_nowhere c =
     watched_to c.requires.history.0 c.args.events.now c.requires.history.2 c.loop-i.i
-    c.at-x.result.now (omega (arith, c.loop-i-test.true, c.len-i-end.ensures))
-    (c.at-x.ensures c.at-x.result.now) c.loop-i.pending.items c.follow.new.pending.items
+    c.at-x.result (omega (arith, c.loop-i-test.true, c.len-i-end.ensures))
+    (c.at-x.ensures c.at-x.result) c.loop-i.pending.items c.follow.new.pending.items
     (hash.contains nat_eq c.loop-i.put) (hash.contains nat_eq c.note_put.new.put)
     c.loop-i.invariant c.in_ok-ended.ended c.in_ok-ended.ensures.call
     c.in_ok-ended.ensures.pending c.in_ok-note_put.ensures c.in-Some.call c.in-Some.is
@@ -20,8 +20,8 @@ returns-then-is_nowhere c =
 pub loop-i-preserved : goal.loop-i-preserved
 loop-i-preserved c =
     watched_more c.requires.history.0 c.args.events.now c.requires.history.2 c.loop-i.i
-    c.at-x.result.now (omega (arith, c.loop-i-test.true, c.len-i-end.ensures))
-    (c.at-x.ensures c.at-x.result.now) c.loop-i.pending.items c.follow.new.pending.items
+    c.at-x.result (omega (arith, c.loop-i-test.true, c.len-i-end.ensures))
+    (c.at-x.ensures c.at-x.result) c.loop-i.pending.items c.follow.new.pending.items
     (hash.contains nat_eq c.loop-i.put) (hash.contains nat_eq c.note_put.new.put)
     c.loop-i.invariant c.in_ok-ended.ended c.in_ok-ended.ensures.call
     c.in_ok-ended.ensures.pending c.in_ok-note_put.ensures

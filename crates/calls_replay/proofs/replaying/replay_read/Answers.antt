@@ -1,6 +1,3 @@
-use Rattle.std.proofs.Common.{List, subst}
-use Rattle.calls_core.specs.declared.history.Placed.{Placed}
-use Rattle.calls_replay.specs.kept.Ends.{WritesSteps}
 use Rattle.calls_replay.proofs.Ends.{is_hindered, found_none, order_written}
 use Rattle.calls_replay.proofs.replaying.replay_read.Goals as goal
 
@@ -13,18 +10,14 @@ returns-in-Some-clause-ends g c =
 pub returns-in-Ok-clause-ends : goal.returns-in-Ok-clause-ends
 returns-in-Ok-clause-ends g c =
     order_written c.args.read.now.number c.args.read.now.recording c.args.read.now.rest.now
-    c.in-Ok.order.items (g.W.Write.contents c.args.out.now) c.args.notes.now
+    c.in-Ok.order (g.W.Write.contents c.args.out.now) c.args.notes.now
     c.linearize.new.notes c.write_steps.result
     (record {
       out = g.W.Write.contents c.write_steps.new.out;
       notes = c.write_steps.new.notes;
     })
     c.in_default.ensures.none c.in-Ok.ensures.ok c.in-Ok.ensures.quiet
-    (subst (λ (order : List Placed). WritesSteps c.args.read.now.recording order
-    c.write_steps.result
-    (record { out = g.W.Write.contents c.args.out.now; notes = c.linearize.new.notes })
-    (record { out = g.W.Write.contents c.write_steps.new.out; notes = c.write_steps.new.notes }))
-    c.deref.ensures.value c.write_steps.ensures.ends)
+    c.write_steps.ensures.ends
 
 pub returns-in-Err-clause-ends : goal.returns-in-Err-clause-ends
 returns-in-Err-clause-ends g c =

@@ -5,10 +5,10 @@ use Rattle.calls_report.specs.Remarks.{greatest_shown}
 use Rattle.calls_report.proofs.sure.greatest_shown.Given as goal
 
 -- the calls so far are known, and the advances that come after them
-abbrev pub invariant-loop-event : goal.invariant-loop-event
-invariant-loop-event l = record {
-  calls : l.calls.items ≡ pending_calls (reverse (take l.event-index l.events));
-  left : l.left ≡ count_by (is_advance_of l.object) (drop l.event-index l.events);
+abbrev pub invariant-loop-i : goal.invariant-loop-i
+invariant-loop-i l = record {
+  calls : l.calls.items ≡ pending_calls (reverse (take l.i l.events));
+  left : l.left ≡ count_by (is_advance_of l.object) (drop l.i l.events);
   greatest : l.greatest ≡ greatest_shown l.object l.events l.first (completed_calls
-      (reverse (take l.event-index l.events)));
+      (reverse (take l.i l.events)));
 }

@@ -8,7 +8,7 @@ pub returns-in-Some : goal.returns-in-Some
 returns-in-Some c =
     let k = c.args.object in
     let called = c.count_advances-called.ensures
-    ∙ ap (count_by (is_advance_of k)) c.events.ensures in
+    ∙ ap (count_by (is_advance_of k)) (c.whole.ensures ∙ c.events.ensures) in
     let pending = c.count_open.ensures ∙ ap (count_by (is_pending_advance k)) c.requires in
     omega (
       arith,

@@ -13,7 +13,7 @@ loop-i-init c = begun c.args.end c.in_ok-pass.pass c.in_ok-pass.ensures.pending
 
 pub returns-in-Fails : goal.returns-in-Fails
 returns-in-Fails c =
-    let x = c.at-event.result.now in
+    let x = c.at-event.result in
     let lt : c.loop-i.i < length c.args.events.now =
     omega (arith, c.loop-i-test.true, c.len-i-end.ensures) in
     let took = subst (λ (y : Event). TakesIn c.args.end c.loop-i.pass c.take_in.new.pass y
@@ -25,7 +25,7 @@ returns-in-Fails c =
 
 pub returns-in-Overlaps : goal.returns-in-Overlaps
 returns-in-Overlaps c =
-    let x = c.at-event.result.now in
+    let x = c.at-event.result in
     let lt : c.loop-i.i < length c.args.events.now =
     omega (arith, c.loop-i-test.true, c.len-i-end.ensures) in
     let took = subst (λ (y : Event). TakesIn c.args.end c.loop-i.pass c.take_in.new.pass y
@@ -37,7 +37,7 @@ returns-in-Overlaps c =
 
 pub loop-i-preserved : goal.loop-i-preserved
 loop-i-preserved c =
-    let x = c.at-event.result.now in
+    let x = c.at-event.result in
     let lt : c.loop-i.i < length c.args.events.now =
     omega (arith, c.loop-i-test.true, c.len-i-end.ensures) in
     let took = subst (λ (y : Event). TakesIn c.args.end c.loop-i.pass c.take_in.new.pass y

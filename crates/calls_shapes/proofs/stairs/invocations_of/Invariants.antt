@@ -3,6 +3,6 @@ use Rattle.calls_shapes.specs.declared.stairs.Portion.TheVariants.{Called}
 use Rattle.calls_shapes.specs.Stairs.{rises_of}
 use Rattle.calls_shapes.proofs.stairs.invocations_of.Given as goal
 
-abbrev pub invariant-loop-event : goal.invariant-loop-event
-invariant-loop-event l =
-    l.positions.items ≡ rises_of l.counted Called (take l.event-index l.events)
+abbrev pub invariant-loop-i : goal.invariant-loop-i
+invariant-loop-i l =
+    l.positions.items ≡ rises_of l.counted Called (take l.i l.events)

@@ -3,9 +3,9 @@ use Rattle.calls_core.specs.Histories.{pending_calls}
 use Rattle.calls_shapes.specs.Stairs.{responses_in}
 use Rattle.calls_shapes.proofs.stairs.responses_of.Given as goal
 
-abbrev pub invariant-loop-event : goal.invariant-loop-event
-invariant-loop-event l = record {
-  pending : l.pending.items ≡ pending_calls (reverse (take l.event-index l.events));
+abbrev pub invariant-loop-i : goal.invariant-loop-i
+invariant-loop-i l = record {
+  pending : l.pending.items ≡ pending_calls (reverse (take l.i l.events));
   positions : l.positions.items ≡ responses_in l.span.counted l.span.portion
-      (take l.event-index l.events);
+      (take l.i l.events);
 }

@@ -3,7 +3,6 @@ use Rattle.calls_core.specs.declared.history.Event.{Event}
 use Rattle.calls_core.specs.declared.history.Kind.TheVariants.{Buffer}
 use Rattle.calls_core.specs.Histories.{IsHistoryOf, clock}
 use Rattle.calls_core.specs.Beginnings.{past_at}
-use Rattle.calls_core.specs.Outcomes.{HasOrderOf}
 use Rattle.calls_core.proofs.Beginnings.{history_at}
 use Rattle.calls_core.proofs.Settling.{has_order_from}
 use Rattle.calls_distinct.proofs.Earlier.{order_of_none as nothing_ordered}
@@ -13,7 +12,6 @@ use Rattle.calls_buffers.specs.Outcomes.{IsOutcome}
 use Rattle.calls_verdict.specs.declared.verdict.Cause.TheVariants.{Unfound}
 use Rattle.calls_verdict.specs.Verdicts.{IsOpenFrom}
 use Rattle.calls_verdict.proofs.Halving.{unfound_from}
-use Rattle.calls_verdict.proofs.buffers.leave_open.Goals.{in-Ordered, in-NotDecided}
 use Rattle.calls_verdict.proofs.buffers.leave_open.Goals as goal
 
 pub loop-high-init : goal.loop-high-init
@@ -38,49 +36,36 @@ pub refuse-requires-clause-shown : goal.refuse-requires-clause-shown
 refuse-requires-clause-shown c =
     subst (IsOutcome c.args.room (take c.next_between-mid.result c.args.events.now) c.args.end)
     c.in-Refused.is
-    (subst (λ zs. IsOutcome c.args.room zs c.args.end c.in_ok-fault.field-0)
-    c.first-beginning.ensures c.in_ok-fault.ensures)
+    (subst (λ zs. IsOutcome c.args.room zs c.args.end c.in_ok-calls.field-0)
+    c.first-beginning.ensures c.in_ok-calls.ensures)
 
-pub loop-high-preserved-after-branch-2 : goal.loop-high-preserved-after-branch-2
-loop-high-preserved-after-branch-2 c =
+pub loop-high-preserved-in-Ordered : goal.loop-high-preserved-in-Ordered
+loop-high-preserved-in-Ordered c =
     let events = c.args.events.now in
     let mid = c.next_between-mid.result in
-    let above = c.next_between-mid.ensures.above in
-    let below = c.next_between-mid.ensures.below in
-    let inside = c.loop-high.invariant.within in
-    elim c.match-branch-2.branch [
-      | in-Ordered w ↦
-          (let low = w.low-is in
-          let high = w.high-is in
-          let found : IsOutcome c.args.room (take mid events) c.args.end
-          (Ordered w.in-Ordered.field-0) =
-          subst (IsOutcome c.args.room (take mid events) c.args.end) w.in-Ordered.is
-          (subst (λ zs. IsOutcome c.args.room zs c.args.end c.in_ok-fault.field-0)
-          c.first-beginning.ensures c.in_ok-fault.ensures) in
-          record {
-            apart = omega arith;
-            within = omega arith;
-            good = subst (λ n. HasOrderOf (Buffer c.args.room) (past_at n events)) (sym low)
-                (has_order_from (Buffer c.args.room) (past_at mid events) c.args.end
-                w.in-Ordered.field-0
-                (history_at (Buffer c.args.room) mid events c.requires.history)
-                (before_end (Buffer c.args.room) mid c.args.end events c.requires.history
-                c.requires.late) found);
-          })
-      | in-NotDecided w ↦
-          (let low = w.low-is in
-          let high = w.high-is in
-          record {
-            apart = omega arith;
-            within = omega arith;
-            good = subst (λ n. HasOrderOf (Buffer c.args.room) (past_at n events)) (sym low)
-                c.loop-high.invariant.good;
-          })
-    ]
+    let found : IsOutcome c.args.room (take mid events) c.args.end (Ordered c.in-Ordered.calls) =
+    subst (IsOutcome c.args.room (take mid events) c.args.end) c.in-Ordered.is
+    (subst (λ zs. IsOutcome c.args.room zs c.args.end c.in_ok-calls.field-0)
+    c.first-beginning.ensures c.in_ok-calls.ensures) in
+    record {
+      apart = c.next_between-mid.ensures.below;
+      within = c.loop-high.invariant.within;
+      good = has_order_from (Buffer c.args.room) (past_at mid events) c.args.end c.in-Ordered.calls
+          (history_at (Buffer c.args.room) mid events c.requires.history)
+          (before_end (Buffer c.args.room) mid c.args.end events c.requires.history
+          c.requires.late) found;
+    }
+
+pub loop-high-preserved : goal.loop-high-preserved
+loop-high-preserved c = record {
+  apart = c.next_between-mid.ensures.above;
+  within = omega (arith, c.next_between-mid.ensures.below, c.loop-high.invariant.within);
+  good = c.loop-high.invariant.good;
+}
 
 pub returns : goal.returns
 returns c =
-    let x = c.at.result.now in
+    let x = c.at.result in
     let lt = c.loop-high.invariant.within in
     let apart = c.loop-high.invariant.apart in
     subst (λ (e : Event). IsOpenFrom (Buffer c.args.room) c.args.events.now c.args.end

@@ -1,4 +1,4 @@
-use Rattle.std.proofs.Common.{◌≡◌, ◌+◌, ◌≤◌, inl, reverse, arith, subst, sym}
+use Rattle.std.proofs.Common.{◌≡◌, ◌+◌, ◌≤◌, refl, inl, reverse, arith, subst, sym}
 use Rattle.calls_core.specs.declared.history.Kind.TheVariants.{Buffer}
 use Rattle.calls_core.specs.Histories.{IsHistoryOf, clock}
 use Rattle.calls_core.specs.Beginnings.{past_at}
@@ -8,7 +8,6 @@ use Rattle.calls_cells.proofs.Trying.{before_end}
 use Rattle.calls_buffers.specs.declared.deciding.Outcome.TheVariants.{Ordered, Refused, NotDecided}
 use Rattle.calls_buffers.specs.Faults.{Shows}
 use Rattle.calls_verdict.proofs.Halving.{narrowed, ordered_before}
-use Rattle.calls_verdict.proofs.buffers.refuse.Goals.{in-Refused, in-Ordered, in-NotDecided}
 use Rattle.calls_verdict.proofs.buffers.refuse.Goals as goal
 
 pub loop-high-init : goal.loop-high-init
@@ -30,50 +29,29 @@ decide-requires-clause-end c =
     (before_end (Buffer c.args.room) c.next_between-mid.result c.args.end c.args.events.now
     c.requires.history c.requires.late)
 
-pub loop-high-preserved-after-branch-2 : goal.loop-high-preserved-after-branch-2
-loop-high-preserved-after-branch-2 c =
-    let next = narrowed c.args.room c.args.end c.args.events.now c.requires.history c.requires.late
+pub loop-high-preserved-in-Refused : goal.loop-high-preserved-in-Refused
+loop-high-preserved-in-Refused c =
+    narrowed c.args.room c.args.end c.args.events.now c.requires.history c.requires.late
     c.loop-high.low c.loop-high.high c.next_between-mid.result c.loop-high.fault
     c.loop-high.invariant c.next_between-mid.ensures.above c.next_between-mid.ensures.below
-    c.first-beginning.result c.in_ok-found.field-0 in
-    elim c.match-branch-2.branch [
-      | in-Refused w ↦ next (Refused w.in-Refused.found) _ _ _ c.first-beginning.ensures
-          c.in_ok-found.ensures w.in-Refused.is (w.low-is, w.high-is, w.fault-is)
-      | in-Ordered w ↦ next (Ordered w.in-Ordered.field-0) _ _ _ c.first-beginning.ensures
-          c.in_ok-found.ensures w.in-Ordered.is (w.low-is, w.high-is, w.fault-is)
-      | in-NotDecided w ↦ next NotDecided _ _ _ c.first-beginning.ensures
-          c.in_ok-found.ensures w.in-NotDecided.is (w.low-is, w.high-is, w.fault-is)
-    ]
+    c.first-beginning.result c.in_ok-found.field-0 (Refused c.in-Refused.found) _ _ _
+    c.first-beginning.ensures c.in_ok-found.ensures c.in-Refused.is (refl, refl, refl)
 
-pub loop-high-preserved-after-branch-2-7 : goal.loop-high-preserved-after-branch-2-7
-loop-high-preserved-after-branch-2-7 c =
-    let next = narrowed c.args.room c.args.end c.args.events.now c.requires.history c.requires.late
+pub loop-high-preserved-in-Ordered : goal.loop-high-preserved-in-Ordered
+loop-high-preserved-in-Ordered c =
+    narrowed c.args.room c.args.end c.args.events.now c.requires.history c.requires.late
     c.loop-high.low c.loop-high.high c.next_between-mid.result c.loop-high.fault
     c.loop-high.invariant c.next_between-mid.ensures.above c.next_between-mid.ensures.below
-    c.first-beginning.result c.in_ok-found.field-0 in
-    elim c.match-branch-2.branch [
-      | in-Refused w ↦ next (Refused w.in-Refused.found) _ _ _ c.first-beginning.ensures
-          c.in_ok-found.ensures w.in-Refused.is (w.low-is, w.high-is, w.fault-is)
-      | in-Ordered w ↦ next (Ordered w.in-Ordered.field-0) _ _ _ c.first-beginning.ensures
-          c.in_ok-found.ensures w.in-Ordered.is (w.low-is, w.high-is, w.fault-is)
-      | in-NotDecided w ↦ next NotDecided _ _ _ c.first-beginning.ensures
-          c.in_ok-found.ensures w.in-NotDecided.is (w.low-is, w.high-is, w.fault-is)
-    ]
+    c.first-beginning.result c.in_ok-found.field-0 (Ordered c.in-Ordered.calls) _ _ _
+    c.first-beginning.ensures c.in_ok-found.ensures c.in-Ordered.is (refl, refl, refl)
 
 pub loop-high-preserved : goal.loop-high-preserved
 loop-high-preserved c =
-    let next = narrowed c.args.room c.args.end c.args.events.now c.requires.history c.requires.late
+    narrowed c.args.room c.args.end c.args.events.now c.requires.history c.requires.late
     c.loop-high.low c.loop-high.high c.next_between-mid.result c.loop-high.fault
     c.loop-high.invariant c.next_between-mid.ensures.above c.next_between-mid.ensures.below
-    c.first-beginning.result c.in_ok-found.field-0 in
-    elim c.match-branch-2.branch [
-      | in-Refused w ↦ next (Refused w.in-Refused.found) _ _ _ c.first-beginning.ensures
-          c.in_ok-found.ensures w.in-Refused.is (w.low-is, w.high-is, w.fault-is)
-      | in-Ordered w ↦ next (Ordered w.in-Ordered.field-0) _ _ _ c.first-beginning.ensures
-          c.in_ok-found.ensures w.in-Ordered.is (w.low-is, w.high-is, w.fault-is)
-      | in-NotDecided w ↦ next NotDecided _ _ _ c.first-beginning.ensures
-          c.in_ok-found.ensures w.in-NotDecided.is (w.low-is, w.high-is, w.fault-is)
-    ]
+    c.first-beginning.result c.in_ok-found.field-0 NotDecided _ _ _
+    c.first-beginning.ensures c.in_ok-found.ensures c.in-NotDecided.is (refl, refl, refl)
 
 pub returns : goal.returns
 returns c =

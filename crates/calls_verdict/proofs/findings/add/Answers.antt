@@ -19,10 +19,10 @@ returns-in_ok-append_to-in-Ordered c =
 
 pub returns-in-Refused : goal.returns-in-Refused
 returns-in-Refused c =
-    let x = c.at.result.now in
+    let x = c.at-at.result in
     let earlier = subst (λ (y : Event). IsEarlier c.take.result
     (record { at = y.at; object = c.args.object; fault = c.in-Refused.fault }) c.earlier.result)
-    (c.at.ensures x) c.earlier.ensures in
+    (c.at-at.ensures x) c.earlier.ensures in
     λ kinds past kind h is mine d f. found_refused kinds past h c.args.object kind c.args.own.now
     c.in-Refused.i x c.in-Refused.fault
     c.args.found.now _ c.take.result c.earlier.result c.take.ensures.value is mine

@@ -12,6 +12,6 @@ returns-in-Some-undecided c =
 
 pub returns : goal.returns
 returns c =
-    λ kinds past h f. verdict_ordered kinds past h c.args.found c.merge.new.calls
+    λ kinds past h f. verdict_ordered kinds past h c.args.found c.sort.new.self
     (none_here c.args.found.refusal c.in_default.not-Some)
-    (none_here c.args.found.undecided c.in_default-undecided.not-Some) c.in_ok-merge.ensures f
+    (none_here c.args.found.undecided c.in_default-undecided.not-Some) c.in_ok-sort.ensures f

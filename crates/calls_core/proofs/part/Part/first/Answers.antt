@@ -1,10 +1,10 @@
 use Rattle.std.proofs.Common.{◌∙◌, ap, sym, take}
 use Rattle.std.proofs.lemmas.List.{take-map}
-use Rattle.std.specs.Borrow.{Bor}
-use Rattle.calls_core.specs.declared.history.Event.{Event}
+use Rattle.calls_core.specs.Parts.{event_at, chosen_events}
 use Rattle.calls_core.proofs.part.Part.first.Goals as goal
 
-pub returns : goal.returns
-returns c =
-    sym (take-map (λ (x : Bor Event). x.now) c.args.n c.self.inside.events.now)
-    ∙ ap (take c.args.n) c.self.view_is
+pub returns-in-At : goal.returns-in-At
+returns-in-At c =
+    let events = c.self.inside.events.now in
+    c.by.ensures ∙ sym (take-map (event_at events) c.args.n c.in-At.indices.now)
+    ∙ ap (take c.args.n) (ap (chosen_events events) (sym c.in-At.is) ∙ c.self.view_is)

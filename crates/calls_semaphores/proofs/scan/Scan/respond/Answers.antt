@@ -56,8 +56,8 @@ returns-in_ok-push-clause-step c = λ is units past h le k.
     (subst (λ (z : Call). c.push.new.self ≡ s.order ++ z ∷ []) c.complete-call.ensures
     c.in_ok-push.ensures))
 
-pub returns-then-open-len-clause-step : goal.returns-then-open-len-clause-step
-returns-then-open-len-clause-step c = λ is units past h le k.
+pub returns-in_ok-set_response-clause-step : goal.returns-in_ok-set_response-clause-step
+returns-in_ok-set_response-clause-step c = λ is units past h le k.
     (let s = c.args.self.now in
     let o = c.remove-open.result in
     let at = at_noted s.pending.items c.args.event.worker c.in-Some.k o
@@ -75,7 +75,7 @@ returns-then-open-len-clause-step c = λ is units past h le k.
     c.complete-call.ensures c.in_default-take.ensures.value)
     (subst (λ (z : Call). is_v z.op ≡ true) c.complete-call.ensures
     (sym c.is_v.ensures ∙ c.if-not-is_v.false))
-    c.set_response.ensures)
+    c.in_ok-set_response.ensures)
 
 pub returns-else-open-len-clause-step : goal.returns-else-open-len-clause-step
 returns-else-open-len-clause-step c = λ is units past h le k.

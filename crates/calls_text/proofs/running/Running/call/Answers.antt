@@ -39,6 +39,6 @@ returns c =
           ∙ c.in_ok-push.ensures.items
           ∙ ap (λ (o : PendingCall). c.event.new.self.pending.items ++ o ∷ []) c.new.ensures
           ∙ ap (λ (v : Vec PendingCall). v.items ++ began ∷ []) c.in_ok-event.ensures.pending;
-      tally = subst (λ (t : Tally). TallyAfter t c.count.new.self.tally c.args.worker c.args.verb
+      tally = subst (λ (t : Tally). TallyAfter t c.count.new.self.tally.value c.args.worker c.args.verb
           c.args.object.now) c.in_ok-event.ensures.tally c.count.ensures.tally;
     }) c.requires.fits c.requires.none

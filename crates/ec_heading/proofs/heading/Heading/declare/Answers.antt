@@ -1,5 +1,6 @@
 use Rattle.std.proofs.Common.{◌≡◌, ℕ, sym, subst, arith, length}
 use Rattle.std.proofs.lemmas.Grind.{common_steps}
+use Rattle.ec_count.specs.Tables.{Tables}
 use Rattle.ec_heading.specs.Form.{phrase_of_parts}
 use Rattle.ec_heading.specs.HeadingModel.{HeadingModel}
 use Rattle.ec_heading.specs.Kinds.{declaration_of, size_in}
@@ -16,8 +17,9 @@ spell_declaration-requires-clause-new c =
     let new = words_new h (declaration_of h.words p) (subst IsHeading c.self.view_is c.self.invariant) c.requires.may in
     let inside = subst (λ (g : HeadingModel). AreNew p.name g.words (objects_of p.sort (next_ids g) (size_in p))) (sym c.self.view_is) new in
     let groups : c.len-groups.result ≡ length c.self.inside.groups.items = grind (arith, common_steps) in
-    let counted = subst (λ (k : ℕ). AreNew p.name c.self.inside.words (objects_of p.sort (ids_after c.self.inside.setup k) (size_in p))) (sym groups) inside in
-    subst (λ (n : ℕ). AreNew p.name c.self.inside.words (objects_of p.sort (ids_after c.self.inside.setup c.len-groups.result) n)) (sym c.size_of-n.ensures) counted
+    let counted = subst (λ (k : ℕ). AreNew p.name c.self.inside.words (objects_of p.sort (ids_after c.self.inside.setup.value k) (size_in p))) (sym groups) inside in
+    let sized = subst (λ (n : ℕ). AreNew p.name c.self.inside.words (objects_of p.sort (ids_after c.self.inside.setup.value c.len-groups.result) n)) (sym c.size_of-n.ensures) counted in
+    subst (λ (t : Tables). AreNew p.name c.self.inside.words (objects_of p.sort (ids_after t c.len-groups.result) c.size_of-n.result)) (sym c.deref-2.ensures) sized
 
 pub invariant_of-self-2 : goal.invariant_of-self-2
 invariant_of-self-2 c =

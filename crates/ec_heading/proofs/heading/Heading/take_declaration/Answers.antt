@@ -1,5 +1,6 @@
 use Rattle.std.proofs.Common.{◌≡◌, ◌∙◌, Option, Some, Err, refl, sym, ap, subst, None, arith}
 use Rattle.std.proofs.lemmas.Grind.{common_steps}
+use Rattle.ec_count.specs.Tables.{Tables}
 use Rattle.ec_count.proofs.shared.Named.{none_left}
 use Rattle.ec_text.specs.Words.{words_of}
 use Rattle.ec_heading.specs.Form.{parts_in, phrase_of_parts}
@@ -26,7 +27,7 @@ returns-in-Some-declaration_fault c =
     let p = phrase_of_parts c.in-Some.parts in
     let f = c.in-Some-declaration_fault.fault in
     let returned : declaration_fault c.args.self.now.setup c.args.self.now.words (phrase_of_parts c.in-Some.parts) ≡ Some c.in-Some-declaration_fault.fault =
-    ap (λ (g : HeadingModel). declaration_fault g.setup g.words (phrase_of_parts c.in-Some.parts)) (sym c.self.view_is) ∙ sym c.in-Some-declaration_fault.ensures in
+    ap (λ (g : HeadingModel). declaration_fault g.setup g.words (phrase_of_parts c.in-Some.parts)) (sym c.self.view_is) ∙ ap (λ (t : Tables). declaration_fault t c.self.inside.words (phrase_of_parts c.in-Some.parts)) (sym c.deref.ensures) ∙ sym c.in-Some-declaration_fault.ensures in
     let stepped : declared_or h (parts_in (words_of c.args.line.now)) ≡ Err f =
     ap (declared_or h) (sym c.in-Some.ensures) ∙ ap (λ (o : Option HeadFault). fault_or o (with_declaration h (declaration_of h.words p))) returned in
     (refl, subst (FailsAs f) (sym stepped) (fault_fails h.setup h.words p f returned))

@@ -1,0 +1,6 @@
+use Rattle.std.proofs.Common.{◌≡◌, take, map}
+use Rattle.calls_core.specs.kept.Packed.{unpack_placed}
+use Rattle.calls_core.proofs.order.widen.Given as goal
+
+abbrev pub invariant-loop-packed : goal.invariant-loop-packed
+invariant-loop-packed l = l.wide.items ≡ map unpack_placed (take l.packed-index l.list.items)

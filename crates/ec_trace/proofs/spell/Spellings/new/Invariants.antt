@@ -1,6 +1,0 @@
-use Rattle.std.proofs.Common.{drop}
-use Rattle.ec_trace.specs.kept.WordTables.{Spells}
-use Rattle.ec_trace.proofs.spell.Spellings.new.Given as goal
-
-abbrev pub invariant-loop-place : goal.invariant-loop-place
-invariant-loop-place l = Spells (drop l.place l.vocabulary) l.words
