@@ -91,14 +91,18 @@ static inline void evc_monitor_free_(evc_monitor_thread *m, int worker, evc_slot
 /* Moves a cursor to the event after the one it is at, round the ring. */
 static inline void evc_monitor_find_(evc_monitor_thread *m, int worker) {
     evc_cursor_ *k = &m->pass.cursor[worker];
-    evc_slot_ *first = m->calls->worker[worker].first;
-    if (!k->is_response && k->slot < k->end &&
-        __atomic_load_n(&k->slot->what, __ATOMIC_ACQUIRE) == EVC_CALL_SKIP_) {
-        evc_monitor_free_(m, worker, k->slot, (uint64_t)(k->end - k->slot));
-        k->slot = k->end;
+    if (!k->is_response && k->slot < k->end) {
+        uint64_t what = __atomic_load_n(&k->slot->what, __ATOMIC_ACQUIRE);
+        k->is_over = what == 0;
+        if (k->is_over) /* (a skip that is written from now on is for the next batch) */
+            return;
+        if (what == EVC_CALL_SKIP_) {
+            evc_monitor_free_(m, worker, k->slot, (uint64_t)(k->end - k->slot));
+            k->slot = k->end;
+        }
     }
     if (!k->is_response && k->slot == k->end)
-        k->slot = first;
+        k->slot = m->calls->worker[worker].first;
     evc_find_(&m->pass, worker);
 }
 
