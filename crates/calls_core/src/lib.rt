@@ -7,6 +7,7 @@ mod events;
 mod history;
 #[cfg(test)]
 mod list_tests;
+mod numbers;
 mod order;
 mod packed;
 mod part;
@@ -15,6 +16,7 @@ mod pending;
 pub use call_list::CallList;
 pub use events::Events;
 pub use history::{Action, Call, Event, Kind, Op, PendingCall, Placed, Reply, WORKERS};
+pub use numbers::Numbers;
 pub use order::Order;
 pub use part::{Part, PartList};
 pub use pending::{NotedCall, find, find_noted, push_range, take_pending};

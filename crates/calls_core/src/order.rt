@@ -1,5 +1,5 @@
 //! Calls of many objects with their linearization points, in little memory.
-ghost use Rattle.std.specs.Prelude.{◌≡◌, ◌<◌, ◌++◌, ◌∷◌, [], length, map, get_or, IfOk, OnOk};
+ghost use Rattle.std.specs.Prelude.{◌≡◌, ◌<◌, ◌++◌, ◌∷◌, [], length, map, get_or, set, IfOk, OnOk};
 ghost use Rattle.calls_core.specs.declared.history.Placed.{Placed};
 ghost use Rattle.calls_core.specs.Points.{by_points};
 ghost use Rattle.calls_core.specs.kept.Packed.{unpack_placed};
@@ -120,6 +120,25 @@ impl Order {
             Width::Narrow(list) => list[i].unpack(),
             Width::Wide(list) => list[i],
         }
+    }
+
+    /// Replaces the call at an index, and its point.
+    pub fn set(&mut self, i: usize, placed: Placed) -> Result<(), AllocError>
+        requires { i < length self.old }
+        ensures { OnOk result (self.new ≡ set self.old i placed) }
+    {
+        match &mut self.list {
+            Width::Narrow(list) => match PackedPlaced::of(&placed) {
+                Some(packed) => list[i] = packed,
+                None => {
+                    let mut wide = widen(list)?;
+                    wide[i] = placed;
+                    self.list = Width::Wide(wide);
+                }
+            },
+            Width::Wide(list) => list[i] = placed,
+        }
+        Ok(())
     }
 
     /// Sorts the calls by their points. Calls with the same point keep their order.

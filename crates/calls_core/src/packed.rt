@@ -85,7 +85,7 @@ const _: [u8; 24] = [0; size_of::<PackedPlaced>()];
 
 /// Returns a number in 32 bits, if it fits.
 #[inline(always)]
-fn to_u32(n: usize) -> Option<u32>
+pub(crate) fn to_u32(n: usize) -> Option<u32>
     ensures { IfSome result (λ m. m ≡ n) }
 {
     u32::try_from(n).ok()

@@ -1,3 +1,4 @@
+pub mod Kept
 pub mod Events
 pub mod Runs
 pub mod Necessity

@@ -1,15 +1,17 @@
 -- The reads of each place, linked.
 use Rattle.std.proofs.Common.{◌≡◌, ◌≢◌, ℕ, ◌+◌, ◌<◌, ◌≤◌, inl, inr, set}
 use Rattle.std.proofs.Common.{◌==◌, List, ◌∷◌, ◌++◌, length, refl, ap, sym, ◌∙◌, arith, cond}
-use Rattle.std.proofs.Common.{subst, get_or, drop, length-set}
+use Rattle.std.proofs.Common.{subst, get_or, drop, length-set, suc, append_assoc, drop-cons}
+use Rattle.std.specs.Option.{option_to_list}
 use Rattle.std.specs.List.{filter}
 use Rattle.std.proofs.lemmas.Bool.{ne_eqb, cases_eq}
 use Rattle.std.proofs.lemmas.List.{get_or_default, drop_more}
 use Rattle.std.proofs.lemmas.List.{get_or-set_same, get_or-set_other}
 use Rattle.calls_core.specs.declared.history.Call.{Call}
 use Rattle.calls_counts.specs.declared.state.PlacedRead.{PlacedRead}
+use Rattle.calls_counts.specs.declared.state.Slot.{Slot}
 use Rattle.calls_counts.specs.ScanStates.{placed_calls}
-use Rattle.calls_counts.specs.kept.Orders.{reads_at, IsNextAt, AreLinked}
+use Rattle.calls_counts.specs.kept.Orders.{reads_at, order_from, IsNextAt, AreLinked}
 
 -- THE NEXT READ OF A PLACE
 
@@ -114,3 +116,23 @@ linked_more reads i d first next k j lt is low read h =
 pub record IsPushed (reads : List PlacedRead) (k : ℕ) (start out : List Call) (i : ℕ) : Type 0 where
   pub all : out ++ reads_at k (drop i reads) ≡ start ++ reads_at k reads
   pub here : (d : PlacedRead) → i < length reads → (get_or reads i d).place ≡ k
+
+-- the reads of a place and the advance of its slot come next
+pub ordered_more : (slots : List Slot) (reads : List PlacedRead) (k : ℕ) (x : Slot)
+    (out mid new : List Call) → k < length slots → x ≡ get_or slots k x
+    → mid ≡ out ++ reads_at k reads → new ≡ mid ++ option_to_list x.taken
+    → out ++ order_from k (drop k slots) reads
+    ≡ new ++ order_from (k + 1) (drop (k + 1) slots) reads
+ordered_more slots reads k x out mid new lt read first then_taken =
+    let at = reads_at k reads in
+    let taken = option_to_list x.taken in
+    let rest = order_from (k + 1) (drop (k + 1) slots) reads in
+    let one : suc k ≡ k + 1 = omega arith in
+    let cut : drop k slots ≡ x ∷ drop (k + 1) slots = drop-cons slots k x lt
+    ∙ ap (λ (s : Slot). s ∷ drop (suc k) slots) (sym read)
+    ∙ ap (λ n. x ∷ drop n slots) one in
+    ap (λ (ss : List Slot). out ++ order_from k ss reads) cut
+    ∙ sym (append_assoc out at (taken ++ rest))
+    ∙ sym (append_assoc (out ++ at) taken rest)
+    ∙ ap (λ (xs : List Call). (xs ++ taken) ++ rest) (sym first)
+    ∙ ap (λ (xs : List Call). xs ++ rest) (sym then_taken)

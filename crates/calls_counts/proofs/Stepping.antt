@@ -510,8 +510,8 @@ module _ (start : ℕ) (past : List Event) (x : Event) (r : Reply) (a : ℕ) (sl
   returned_into later more next (Some f) op k h = refused_into f op (h op t.returned.suits noted_in)
 
 pub keeps_or : (start : ℕ) (past : List Event) (x : Event) (new : Scan) (f : Option Fault)
-    → MatchOption f (Holds start (x ∷ past) new.begun new.slots.items new.pending.items
-    new.reads.items × Skips new.slots.items new.next.items) (Shows start (x ∷ past))
+    → MatchOption f (Holds start (x ∷ past) new.begun new.slots new.pending.items
+    new.reads × Skips new.slots new.next.items) (Shows start (x ∷ past))
     → MatchOption f (ScanKeeps start (x ∷ past) new) (Shows start (x ∷ past))
 keeps_or start past x new None h = record { holds = h.0; skips = h.1 }
 keeps_or start past x new (Some f) h = h

@@ -52,6 +52,9 @@ pub record Skips (slots : List Slot) (next : List ℕ) : Type 0 where
 abbrev pub slot_of_call : ℕ → Call → Slot
 slot_of_call m c = record { moment = m; taken = Some c }
 
+abbrev pub free_slot : ℕ → Slot
+free_slot m = record { moment = m; taken = None }
+
 -- the first slot that was free from index n on is taken by c, and the others are unchanged
 pub record IsFilled (old new : List Slot) (n : ℕ) (c : Call) : Type 0 where
   pub prefix : List Slot
@@ -162,8 +165,8 @@ pub record Holds (start : ℕ) (past : List Event) (begun : ℕ) (slots : List S
   pub pending_is : noted_calls pending ≡ pending_calls past
 
 pub record ScanKeeps (start : ℕ) (past : List Event) (scan : Scan) : Type 0 where
-  pub holds : Holds start past scan.begun scan.slots.items scan.pending.items scan.reads.items
-  pub skips : Skips scan.slots.items scan.next.items
+  pub holds : Holds start past scan.begun scan.slots scan.pending.items scan.reads
+  pub skips : Skips scan.slots scan.next.items
 
 -- for every history that the old scan represents: the new scan represents it with one more event,
 -- or the event shows the fault

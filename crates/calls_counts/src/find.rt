@@ -1,10 +1,10 @@
 //! Searches in the state of the scan, and the bounds that a reply sets on the count.
-ghost use Rattle.std.specs.Prelude.{◌≡◌, ◌↔◌, ℕ, IsTrue, MatchOption, MatchBool, OnOk, IfSome};
+ghost use Rattle.std.specs.Prelude.{◌≡◌, ◌↔◌, ℕ, IsTrue, MatchOption, MatchBool, IfOk, OnOk, IfSome, true};
 ghost use Rattle.std.specs.Prelude.{length, ◌<◌, ◌≤◌, slice_index, slice_set};
 ghost use Rattle.calls_counts.specs.Scanning.{NoneFree, IsFirstFree, IsFilled, Skips};
 ghost use Rattle.calls_counts.specs.Faults.{is_advance, least, most, Contradicts};
 
-use crate::Slot;
+use crate::Slots;
 use calls_core::{Call, Op, Reply};
 use std::alloc::AllocError;
 
@@ -40,14 +40,14 @@ pub fn grow(next: &mut Vec<usize>, upto: usize) -> Result<(), AllocError>
 ///
 /// It skips slots that are known to be taken, and lengthens the skips for later searches (path
 /// halving).
-pub fn first_free(slots: &[Slot], next: &mut Vec<usize>, from: usize) -> Option<usize>
+pub fn first_free(slots: &Slots, next: &mut Vec<usize>, from: usize) -> Option<usize>
     ensures within { IfSome result (λ i. i < length slots.now) }
     ensures found { Skips slots.now next.old.items → Skips slots.now next.new.items
         × MatchOption result (NoneFree slots.now from) (IsFirstFree slots.now from) }
 {
     let mut i = from;
     while i < slots.len() {
-        if slots[i].taken.is_none() {
+        if slots.at(i).taken.is_none() {
             return Some(i);
         }
         let far = skip(next, i).max(i + 1);
@@ -61,17 +61,24 @@ pub fn first_free(slots: &[Slot], next: &mut Vec<usize>, from: usize) -> Option<
 /// Gives an advance the first free slot at index `noted` or later, if there is one.
 ///
 /// Returns whether there was one.
-pub fn fill(slots: &mut Vec<Slot>, next: &mut Vec<usize>, noted: usize, call: Call) -> bool
-    ensures { Skips slots.old.items next.old.items → Skips slots.new.items next.new.items
-        × MatchBool result (IsFilled slots.old.items slots.new.items noted call)
-        ((slots.new.items ≡ slots.old.items) × NoneFree slots.old.items noted) }
+pub fn fill(
+    slots: &mut Slots,
+    next: &mut Vec<usize>,
+    noted: usize,
+    call: Call,
+) -> Result<bool, AllocError>
+    requires { is_advance call.op ≡ true }
+    ensures { IfOk result (λ filled. Skips slots.old next.old.items
+        → Skips slots.new next.new.items
+        × MatchBool filled (IsFilled slots.old slots.new noted call)
+        ((slots.new ≡ slots.old) × NoneFree slots.old noted)) }
 {
     match first_free(slots, next, noted) {
         Some(k) => {
-            slots[k].taken = Some(call);
-            true
+            slots.take(k, call)?;
+            Ok(true)
         }
-        None => false,
+        None => Ok(false),
     }
 }
 

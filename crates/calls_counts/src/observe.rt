@@ -10,20 +10,18 @@ ghost use Rattle.calls_counts.specs.Scanning.{IsObserved, IsRefused, invoked_bef
 ghost use Rattle.calls_counts.specs.Scanning.{AreInvocations};
 
 use crate::find::{contradicts, is_advance, least, most};
-use crate::{Fault, PlacedRead, Slot};
+use crate::{Fault, PlacedRead, Reads, Slot, Slots};
 use calls_core::Call;
 use std::alloc::{AllocError, Global};
 
-/// Adds free slots until there are at least `upto`.
-fn raise(slots: &mut Vec<Slot>, upto: usize, moment: usize) -> Result<(), AllocError>
-    ensures added { OnOk result (IsRaised slots.old.items slots.new.items upto moment) }
-    ensures enough { OnOk result (upto ≤ length slots.new.items) }
+/// Adds free slots until there are at least `upto`, since a call says that the count rose.
+fn raise(slots: &mut Slots, upto: usize, call: Call) -> Result<(), AllocError>
+    requires { is_advance call.op ≡ false }
+    ensures added { OnOk result (IsRaised slots.old slots.new upto call.last) }
+    ensures enough { OnOk result (upto ≤ length slots.new) }
 {
     while slots.len() < upto {
-        slots.push(Slot {
-            moment,
-            taken: None,
-        })?;
+        slots.push_free(call)?;
     }
     Ok(())
 }
@@ -45,17 +43,20 @@ fn invoked_before(slot: &Slot, to: usize) -> Option<usize>
 }
 
 /// Collects the invocations of the advances that have a slot and respond before position `to`.
-fn invocations(alloc: Global, slots: &[Slot], to: usize) -> Result<Vec<usize>, AllocError>
+fn invocations(alloc: Global, slots: &Slots, to: usize) -> Result<Vec<usize>, AllocError>
     ensures { IfOk result (λ v. v.items ≡ filter_map (λ s. invoked_before to s.taken) slots.now) }
 {
-    slots
-        .iter()
-        .filter_map(|slot| invoked_before(slot, to))
-        .collect(alloc)
+    let mut firsts = Vec::new(alloc);
+    for i in 0..slots.len() {
+        if let Some(first) = invoked_before(&slots.at(i), to) {
+            firsts.push(first)?;
+        }
+    }
+    Ok(firsts)
 }
 
 /// Collects these invocations in ascending order.
-fn sorted_invocations(alloc: Global, slots: &[Slot], to: usize) -> Result<Vec<usize>, AllocError>
+fn sorted_invocations(alloc: Global, slots: &Slots, to: usize) -> Result<Vec<usize>, AllocError>
     ensures sorted { IfOk result (λ v. IsNonDecreasing v.items) }
     ensures counted { IfOk result (λ v. AreInvocations slots.now to v.items) }
 {
@@ -90,8 +91,8 @@ fn is_fewer(firsts: &[usize], earlier: &Call, call: &Call, number: usize) -> boo
 fn too_little(
     alloc: Global,
     start: usize,
-    slots: &[Slot],
-    reads: &[PlacedRead],
+    slots: &Slots,
+    reads: &Reads,
     call: Call,
     number: usize,
 ) -> Result<Fault, AllocError>
@@ -100,9 +101,10 @@ fn too_little(
         → IsTooLittle start slots.now reads.now call number f) }
 {
     let firsts = sorted_invocations(alloc, slots, call.first)?;
-    for p in reads {
-        if is_fewer(&firsts, &p.call, &call, number) {
-            return Ok(Fault::Since(call, p.call));
+    for i in 0..reads.len() {
+        let earlier = reads.at(i).call;
+        if is_fewer(&firsts, &earlier, &call, number) {
+            return Ok(Fault::Since(call, earlier));
         }
     }
     Ok(Fault::Many(call))
@@ -115,16 +117,16 @@ pub fn observe(
     alloc: Global,
     start: usize,
     begun: usize,
-    slots: &mut Vec<Slot>,
-    reads: &mut Vec<PlacedRead>,
+    slots: &mut Slots,
+    reads: &mut Reads,
     noted: usize,
     call: Call,
 ) -> Result<Option<Fault>, AllocError>
+    requires { is_advance call.op ≡ false }
     ensures { IfOk result (λ r. is_advance call.op ≡ false → Suits call.op call.reply
-        → noted ≤ length slots.old.items
-        → MatchOption r (IsObserved start begun noted call slots.old.items slots.new.items
-        reads.old.items reads.new.items)
-        (IsRefused start begun noted call slots.old.items reads.old.items)) }
+        → noted ≤ length slots.old
+        → MatchOption r (IsObserved start begun noted call slots.old slots.new reads.old reads.new)
+        (IsRefused start begun noted call slots.old reads.old)) }
 {
     let n = least(call.op, call.reply).saturating_sub(start);
     if contradicts(call.op, call.reply) {
@@ -139,7 +141,7 @@ pub fn observe(
             return Ok(Some(fault));
         }
     }
-    raise(slots, n, call.last)?;
+    raise(slots, n, call)?;
     let place = n.max(noted);
     reads.push(PlacedRead { call, place })?;
     Ok(None)

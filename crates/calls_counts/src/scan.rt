@@ -9,7 +9,7 @@ ghost use Rattle.calls_counts.specs.Outcomes.{IsOutcome};
 use crate::find::{fill, grow, is_advance};
 use crate::observe::observe;
 use crate::untaken::{complete, order};
-use crate::{Fault, Outcome, PlacedRead, Slot};
+use crate::{Fault, Outcome, Reads, Slots};
 use calls_core::{Action, Event, NotedCall, Op, Part, PendingCall, Reply, find_noted};
 use std::alloc::{AllocError, Global};
 
@@ -19,13 +19,13 @@ pub struct Scan {
     /// How many advances were invoked.
     pub begun: usize,
     /// The advances in their order: as many slots as the count has risen by at least.
-    pub slots: Vec<Slot>,
+    pub slots: Slots,
     /// For each slot an index up to which the slots from it on are taken, 0 if none is known.
     pub next: Vec<usize>,
     /// The pending calls, each with the number of slots at its invocation.
     pub pending: Vec<NotedCall>,
     /// The completed reads and awaits.
-    pub reads: Vec<PlacedRead>,
+    pub reads: Reads,
 }
 
 /// Adds a pending call at its invocation.
@@ -71,11 +71,8 @@ fn respond(
         );
     }
     grow(&mut scan.next, scan.slots.len())?;
-    if !fill(&mut scan.slots, &mut scan.next, u.noted, call) {
-        scan.slots.push(Slot {
-            moment: event.at,
-            taken: Some(call),
-        })?;
+    if !fill(&mut scan.slots, &mut scan.next, u.noted, call)? {
+        scan.slots.push_taken(event.at, call)?;
     }
     Ok(None)
 }
@@ -115,10 +112,10 @@ pub fn decide(
 {
     let mut scan = Scan {
         begun: 0,
-        slots: Vec::new(alloc),
+        slots: Slots::new(alloc),
         next: Vec::new(alloc),
         pending: Vec::new(alloc),
-        reads: Vec::new(alloc),
+        reads: Reads::new(alloc),
     };
     for i in 0..events.len() {
         let event = events.at(i);
@@ -126,7 +123,7 @@ pub fn decide(
             return Ok(Outcome::Refused(i, fault));
         }
     }
-    complete(&mut scan.slots, &mut scan.next, &scan.pending, end);
+    complete(&mut scan.slots, &mut scan.next, &scan.pending, end)?;
     drop(scan.next);
     let calls = order(alloc, &scan.slots, &scan.reads)?;
     Ok(Outcome::Ordered(calls))

@@ -4,19 +4,25 @@ ghost use Rattle.calls_counts.specs.kept.Orders.{reads_at, AreLinked, IsOrdering
 ghost use Rattle.calls_counts.specs.Scanning.{Completes};
 
 use crate::find::{fill, is_advance};
-use crate::{PlacedRead, Slot};
+use crate::{Reads, Slots};
 use calls_core::{CallList, NotedCall, Reply};
 use std::alloc::{AllocError, Global};
 
 /// Lets pending advances take the free slots, as if they had their responses at `end`.
-pub fn complete(slots: &mut Vec<Slot>, next: &mut Vec<usize>, pending: &[NotedCall], end: usize)
-    ensures { Completes slots.old.items slots.new.items next.old.items pending.now end }
+pub fn complete(
+    slots: &mut Slots,
+    next: &mut Vec<usize>,
+    pending: &[NotedCall],
+    end: usize,
+) -> Result<(), AllocError>
+    ensures { OnOk result (Completes slots.old slots.new next.old.items pending.now end) }
 {
     for u in pending {
         if is_advance(u.call.op) {
-            fill(slots, next, u.noted, u.call.complete(Reply::Done, end));
+            fill(slots, next, u.noted, u.call.complete(Reply::Done, end))?;
         }
     }
+    Ok(())
 }
 
 /// For each place the reads that have it, in their order.
@@ -29,7 +35,7 @@ struct Runs {
 }
 
 /// Finds the reads of each of the places below `places`.
-fn find_runs(alloc: Global, reads: &[PlacedRead], places: usize) -> Result<Runs, AllocError>
+fn find_runs(alloc: Global, reads: &Reads, places: usize) -> Result<Runs, AllocError>
     ensures places { IfOk result (λ r. length r.first.items ≡ places) }
     ensures linked { IfOk result (λ r. AreLinked reads.now 0 r.first.items r.next.items) }
 {
@@ -39,7 +45,7 @@ fn find_runs(alloc: Global, reads: &[PlacedRead], places: usize) -> Result<Runs,
     let mut i = none;
     while i > 0 {
         i -= 1;
-        let place = reads[i].place;
+        let place = reads.at(i).place;
         if place < first.len() {
             next[i] = first[place];
             first[place] = i;
@@ -49,19 +55,14 @@ fn find_runs(alloc: Global, reads: &[PlacedRead], places: usize) -> Result<Runs,
 }
 
 /// Appends the reads of a place.
-fn push_run(
-    out: &mut CallList,
-    reads: &[PlacedRead],
-    runs: &Runs,
-    place: usize,
-) -> Result<(), AllocError>
+fn push_run(out: &mut CallList, reads: &Reads, runs: &Runs, place: usize) -> Result<(), AllocError>
     requires linked { AreLinked reads.now 0 runs.now.first.items runs.now.next.items }
     requires place { place < length runs.now.first.items }
     ensures { OnOk result (out.new ≡ out.old ++ reads_at place reads.now) }
 {
     let mut i = runs.first[place];
     while i < reads.len() {
-        out.push(reads[i].call)?;
+        out.push(reads.at(i).call)?;
         i = runs.next[i];
     }
     Ok(())
@@ -69,14 +70,15 @@ fn push_run(
 
 /// Returns the order of the calls: each read is at its place among the slots, and the reads of one
 /// place are in the order of their responses.
-pub fn order(alloc: Global, slots: &[Slot], reads: &[PlacedRead]) -> Result<CallList, AllocError>
+pub fn order(alloc: Global, slots: &Slots, reads: &Reads) -> Result<CallList, AllocError>
     ensures { IfOk result (IsOrdering slots.now reads.now) }
 {
-    let runs = find_runs(alloc, reads, slots.len() + 1)?;
+    let places = slots.len().checked_add(1).ok_or(AllocError)?;
+    let runs = find_runs(alloc, reads, places)?;
     let mut out = CallList::new(alloc);
-    for (k, slot) in slots.iter().enumerate() {
+    for k in 0..slots.len() {
         push_run(&mut out, reads, &runs, k)?;
-        if let Some(call) = slot.taken {
+        if let Some(call) = slots.at(k).taken {
             out.push(call)?;
         }
     }

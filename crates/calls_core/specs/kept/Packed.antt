@@ -24,6 +24,8 @@ use Rattle.calls_core.specs.declared.call_list.Width.{Width as CallWidth}
 use Rattle.calls_core.specs.declared.call_list.Width.TheVariants as calls
 use Rattle.calls_core.specs.declared.order.Width.{Width as PlacedWidth}
 use Rattle.calls_core.specs.declared.order.Width.TheVariants as orders
+use Rattle.calls_core.specs.declared.numbers.Width.{Width as NumberWidth}
+use Rattle.calls_core.specs.declared.numbers.Width.TheVariants as numbers
 
 -- what a call with this tag asks, if these are its numbers
 abbrev pub unpack_op : OpTag → ℕ → ℕ → Op
@@ -88,3 +90,7 @@ calls_in (calls.Wide v) = v.items
 abbrev pub placed_in : PlacedWidth → List Placed
 placed_in (orders.Narrow v) = map unpack_placed v.items
 placed_in (orders.Wide v) = v.items
+
+abbrev pub numbers_in : NumberWidth → List ℕ
+numbers_in (numbers.Narrow v) = v.items
+numbers_in (numbers.Wide v) = v.items

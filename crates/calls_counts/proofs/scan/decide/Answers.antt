@@ -25,8 +25,8 @@ take_in-requires c =
     let s = c.loop-i.scan in
     omega (
       arith,
-      begun_within c.args.start c.args.events.now c.loop-i.i s.begun s.slots.items
-          s.pending.items s.reads.items (omega (arith, c.loop-i-test.true, c.len-i-end.ensures))
+      begun_within c.args.start c.args.events.now c.loop-i.i s.begun s.slots
+          s.pending.items s.reads (omega (arith, c.loop-i-test.true, c.len-i-end.ensures))
           c.loop-i.invariant.holds,
     )
 
@@ -47,8 +47,8 @@ returns-in-Some c =
       before = λ k le.
           (let h = history_at (Eventcount c.args.start) n.i events c.requires.history in
           orders_before (Eventcount c.args.start) n.i k events le h
-          (kept_has_order c.args.start (past_at n.i events) s.begun s.slots.items s.pending.items
-          s.reads.items h n.invariant.holds));
+          (kept_has_order c.args.start (past_at n.i events) s.begun s.slots s.pending.items
+          s.reads h n.invariant.holds));
     }
 
 pub loop-i-preserved : goal.loop-i-preserved
@@ -68,19 +68,17 @@ returns c =
     let s = c.loop-i.scan in
     let start = c.args.start in
     let past = reverse c.args.events.now in
-    let holds : Holds start past s.begun s.slots.items s.pending.items s.reads.items =
-    subst (λ p. Holds start p s.begun s.slots.items s.pending.items s.reads.items)
+    let holds : Holds start past s.begun s.slots s.pending.items s.reads =
+    subst (λ p. Holds start p s.begun s.slots s.pending.items s.reads)
     (past_all c.args.events.now c.loop-i.i
     (omega (arith, c.loop-i-test.false, c.len-i-end.ensures))) c.loop-i.invariant.holds in
     let rise : EachPair Earlier (noted_calls s.pending.items) =
     subst (EachPair Earlier) (sym holds.pending_is)
     (pending_rise (Eventcount start) past c.requires.history) in
-    ordered start past c.args.end s.begun c.complete.new.slots.items s.reads.items s.pending.items
+    ordered start past c.args.end s.begun c.complete.new.slots s.reads s.pending.items
     c.in_ok-calls.calls c.requires.history holds.pending_is
-    (subst (λ us. Completes s.slots.items c.complete.new.slots.items s.next.items us c.args.end)
-    c.deref.ensures.value c.complete.ensures
-    c.loop-i.invariant.skips start (completed_calls past) (clock past) s.begun s.reads.items
+    (subst (λ us. Completes s.slots c.complete.new.slots s.next.items us c.args.end)
+    c.deref.ensures.value c.in_ok-complete.ensures
+    c.loop-i.invariant.skips start (completed_calls past) (clock past) s.begun s.reads
     c.requires.time rise holds.state)
-    (subst (λ zs. IsOrdering zs s.reads.items c.in_ok-calls.calls) c.deref-2.ensures.value
-    (subst (λ ps. IsOrdering c.deref-2.result.now ps c.in_ok-calls.calls)
-    c.deref-3.ensures.value c.in_ok-calls.ensures))
+    c.in_ok-calls.ensures

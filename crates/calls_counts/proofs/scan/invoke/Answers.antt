@@ -14,9 +14,9 @@ returns-then-is_advance c = λ start past history keeps.
     let adds : is_advance c.args.op ≡ true = sym c.is_advance.ensures ∙ c.if-is_advance.true in
     record {
       holds = invoked_into start past c.args.event c.args.object c.args.op s.begun
-          (s.begun + 1) s.slots.items s.pending.items c.push.new.self.items s.reads.items
+          (s.begun + 1) s.slots s.pending.items c.push.new.self.items s.reads
           c.len-noted.result c.requires.action
-          (omega (arith, one_yes (is_advance c.args.op) adds)) (omega (arith, s.slots.ok.0))
+          (omega (arith, one_yes (is_advance c.args.op) adds)) (omega (arith, c.len-noted.ensures))
           added history keeps.holds;
       skips = keeps.skips;
     })
@@ -29,9 +29,9 @@ returns-else-is_advance c = λ start past history keeps.
     let none : is_advance c.args.op ≡ false = sym c.is_advance.ensures ∙ c.if-is_advance.false in
     record {
       holds = invoked_into start past c.args.event c.args.object c.args.op s.begun s.begun
-          s.slots.items s.pending.items c.push.new.self.items s.reads.items c.len-noted.result
+          s.slots s.pending.items c.push.new.self.items s.reads c.len-noted.result
           c.requires.action
-          (omega (arith, one_no (is_advance c.args.op) none)) (omega (arith, s.slots.ok.0))
+          (omega (arith, one_no (is_advance c.args.op) none)) (omega (arith, c.len-noted.ensures))
           added history keeps.holds;
       skips = keeps.skips;
     })

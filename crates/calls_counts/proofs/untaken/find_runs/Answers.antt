@@ -1,4 +1,5 @@
-use Rattle.std.proofs.Common.{◌≡◌, ◌+◌, ◌-◌, ◌<◌, length, refl, ◌∙◌, subst, arith, length-set}
+use Rattle.std.proofs.Common.{◌≡◌, ◌+◌, ◌-◌, ◌<◌, ◌≤◌, ap, length, ◌∙◌, subst, arith, length-set}
+use Rattle.calls_counts.specs.declared.state.PlacedRead.{PlacedRead}
 use Rattle.calls_counts.specs.kept.Orders.{AreLinked}
 use Rattle.calls_counts.proofs.Merging.{linked_beyond, linked_more}
 use Rattle.calls_counts.proofs.untaken.find_runs.Goals as goal
@@ -15,8 +16,9 @@ loop-i-preserved-then-place-len c =
     ) in
     record {
       places = length-set _ _ _ ∙ l.invariant.places;
-      linked = linked_more reads (l.i - 1) _ l.first.items l.next.items _ c.index.result.now
-          within refl (omega (arith, c.if-place-len.true, c.len.ensures)) c.index.ensures
+      linked = linked_more reads (l.i - 1) c.at-place.result l.first.items l.next.items _
+          c.index.result.now within
+          (ap (λ (p : PlacedRead). p.place) c.at-place.ensures) (omega (arith, c.if-place-len.true, c.len.ensures)) c.index.ensures
           (subst (λ n. AreLinked reads n l.first.items l.next.items) before l.invariant.linked);
     }
 
@@ -32,7 +34,10 @@ loop-i-preserved c =
     ) in
     record {
       places = l.invariant.places;
-      linked = linked_beyond reads (l.i - 1) _ l.first.items l.next.items c.len.result within
-          (omega (arith, c.len.ensures)) c.if-place-len.false
+      linked = linked_beyond reads (l.i - 1) c.at-place.result l.first.items l.next.items
+          c.len.result within (omega (arith, c.len.ensures))
+          (subst (λ n. c.len.result ≤ n)
+          (ap (λ (p : PlacedRead). p.place) c.at-place.ensures)
+          c.if-place-len.false)
           (subst (λ n. AreLinked reads n l.first.items l.next.items) before l.invariant.linked);
     }
