@@ -13,12 +13,10 @@ use Rattle.evc_engine.specs.Checks.{Outputs, ReadsAs, RefusedFor}
 use Rattle.evc_draw_engine.specs.declared.view.View.{View}
 use Rattle.ec_text.specs.Inputs.{looked_at, IsReadUp, IsCutOff}
 use Rattle.calls_report.specs.declared.status.Status as calls
-use Rattle.calls_draw.specs.Draws.{Chooses}
-use Rattle.calls_draw.specs.Draws as histories
-use Rattle.calls_draw.specs.declared.view.CallsView.{CallsView}
-use Rattle.evc_draw_engine.specs.Draws.{AsksForPart, Draws, DrawsHistories, DrawsText, DrawsCutOff}
+use Rattle.evc_draw_engine.specs.Histories.{AsksForPart, DrawsOne, status_as}
+use Rattle.evc_draw_engine.specs.Draws.{Draws, DrawsHistories, DrawsText, DrawsCutOff}
 use Rattle.evc_draw_engine.specs.Draws.{DrawsTraceSoFar, HasNoFaultYet, IsLasting, ReportsCut, ReportsFault}
-use Rattle.evc_draw_engine.specs.Draws.{IsOutOfMemory, Wrote, WrotePrefix, outputs_of, status_as, trace_before_fault}
+use Rattle.evc_draw_engine.specs.Draws.{IsOutOfMemory, Wrote, WrotePrefix, outputs_of, trace_before_fault}
 use Rattle.evc_draw_engine.specs.Windows.{cut_note, is_wide, window_on}
 
 pub whole_drawn : (v : View) (old left : Option (List ℕ)) (text : List ℕ) (status : Status)
@@ -36,17 +34,12 @@ pub want_drawn : (v : View) (old left : Option (List ℕ)) (status : Status) (be
 want_drawn v None left status before after is returned = tt
 want_drawn v (Some bytes) left status before after is returned = inl (is, returned)
 
--- histories were drawn, with a weaker statement that something is chosen
+-- histories were drawn
 pub histories_drawn : (v : View) (text : List ℕ) (status : Status) (end : calls.Status)
-    (old new : Outputs) (view : CallsView) → (Chooses view → AsksForPart v)
-    → status ≡ status_as end
-    → histories.Draws (Chooses view) text end (outputs_of old) (outputs_of new)
+    (old new : Outputs) → status ≡ status_as end
+    → DrawsOne (AsksForPart v) text end (outputs_of old) (outputs_of new)
     → DrawsHistories v text status old new
-histories_drawn v text status end old new view asks is (inl one) = (end, is, inl one)
-histories_drawn v text status end old new view asks is (inr (keeps, inl (usage, chosen))) =
-    (end, is, inr (keeps, inl (usage, asks chosen)))
-histories_drawn v text status end old new view asks is (inr (keeps, inr other)) =
-    (end, is, inr (keeps, inr other))
+histories_drawn v text status end old new is one = (end, is, one)
 
 pub no_fault_read : (text : List ℕ) (t : TraceModel) → ReadsAs text t → HasNoFaultYet text
 no_fault_read text t r = inl (t, r.returned)

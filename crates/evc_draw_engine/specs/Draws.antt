@@ -14,8 +14,6 @@ use Rattle.ec_trace.specs.declared.fault.TraceFault.TheVariants as faults
 use Rattle.ec_trace.specs.declared.read.TheConstants.{TRACE_MAX}
 use Rattle.calls_report.specs.Checks as checks
 use Rattle.calls_report.specs.declared.status.Status as calls
-use Rattle.calls_report.specs.declared.status.Status.TheVariants as ends
-use Rattle.calls_draw.specs.Draws as histories
 use Rattle.ec_draw.specs.Pictures.{Shapes, shapes}
 use Rattle.evc_engine.specs.declared.status.Status.{Status}
 use Rattle.evc_engine.specs.declared.status.Status.TheVariants.{Done, Refused, Usage, InputOutput}
@@ -26,7 +24,8 @@ use Rattle.evc_draw_engine.specs.declared.note.Note.{Note}
 use Rattle.evc_draw_engine.specs.declared.view.View.{View}
 use Rattle.evc_draw_engine.specs.Faults.{history, fault_line, position_in, right_of}
 use Rattle.evc_draw_engine.specs.Unknown.{has_unknown, unknown_notes}
-use Rattle.evc_draw_engine.specs.Windows.{cut_note, empty_note, is_empty, is_whole, is_wide, window_for}
+use Rattle.evc_draw_engine.specs.Histories.{AsksForPart, DrawsOne, status_as}
+use Rattle.evc_draw_engine.specs.Windows.{cut_note, empty_note, is_empty, is_wide, window_for}
 use Rattle.evc_draw_engine.specs.Windows.{window_on}
 
 -- the shapes of a trace that has n columns
@@ -163,30 +162,14 @@ DrawsTraceSoFar text status old new =
 
 -- HISTORIES OF CALLS
 
--- the program's status with the same number: Stopped if a history is not decided
-abbrev pub status_as : calls.Status → Status
-status_as ends.Done = Done
-status_as ends.Refused = Refused
-status_as ends.Usage = Usage
-status_as ends.InputOutput = InputOutput
-status_as ends.Memory = Memory
-status_as ends.NotDecided = Stopped
-
--- the view asks for a part of the history
-abbrev pub AsksForPart : View → Type 0
-AsksForPart v =
-    (0 < length v.choice.workers.now)
-    ⊎ ((0 < length v.choice.objects.now) ⊎ (is_whole v.range ≡ false))
-
 abbrev pub outputs_of : Outputs → checks.Outputs
 outputs_of o = record { out = o.out; notes = o.notes }
 
--- how it ended with histories of calls: as calls_draw says, with the note and the status of
--- `evc-calls check`, unless the view has nothing in it, or memory ran out, or a write failed
+-- how it ended with histories of calls: with the note and the status of `evc-calls check`, unless the view has nothing in it, or memory ran out, or a write failed
 abbrev pub DrawsHistories : View → List ℕ → Status → Outputs → Outputs → Type 0
 DrawsHistories v text status old new =
     (end : calls.Status) × (status ≡ status_as end)
-    × histories.Draws (AsksForPart v) text end (outputs_of old) (outputs_of new)
+    × DrawsOne (AsksForPart v) text end (outputs_of old) (outputs_of new)
 
 -- ALL INPUTS
 

@@ -1,4 +1,5 @@
 pub mod Windows
 pub mod Unknown
 pub mod Faults
+pub mod Histories
 pub mod Draws

@@ -1,8 +1,7 @@
 //! Draws a trace, or histories of calls.
-ghost use Rattle.std.specs.Prelude.{◌≡◌, Some, codes, false, true, IfSome, length};
+ghost use Rattle.std.specs.Prelude.{◌≡◌, Some, false, true, IfSome, length};
 ghost use Rattle.ec_text.specs.Puts.{Puts, IsWrittenOut};
 ghost use Rattle.ec_trace.specs.declared.read.TheConstants.{TRACE_MAX};
-ghost use Rattle.evc_engine.specs.declared.status.Status.TheVariants.{InputOutput, Memory};
 ghost use Rattle.ec_draw.specs.Chosen.{chosen_targets};
 ghost use Rattle.ec_draw.specs.Pictures.{kept_shapes};
 ghost use Rattle.evc_draw_engine.specs.Draws.{CutOffFault, Drawn, Draws, DrawsCutOff, DrawsText};
@@ -12,23 +11,20 @@ ghost use Rattle.evc_draw_engine.specs.Draws.{columns_for, shapes_for, trace_bef
 ghost use Rattle.evc_draw_engine.specs.Faults.{position_in, right_of};
 ghost use Rattle.evc_draw_engine.specs.Windows.{cut_note, is_wide, window_on};
 
-use crate::calls::draw_histories;
 use crate::fault::{fault_line, history, position_in, read_text, right_of};
-use crate::html::put_html;
-use crate::names::Names;
+use crate::histories::{draw_histories, is_calls};
+use crate::html::document;
 use crate::note::Note;
-use crate::sheet::Sheet;
-use crate::svg::put_svg;
-use crate::text::put_text;
+use crate::reports::{read_fault, report_no_memory, write_fault};
+use crate::trace::{Sheet, scene_of_trace};
 use crate::unknown::{has_unknown, report_unknown};
 use crate::view::View;
 use crate::window::{is_empty, is_wide, report_empty, window_for};
-use calls_draw::is_calls;
 use ec_draw::{Picture, Selection, picture_of};
 use ec_explain::line_at;
 use ec_text::{Input, Output, read_up_to, write_out};
-use ec_trace::{TRACE_MAX, TraceFault, Traced};
-use evc_draw_cli::{Form, Range};
+use ec_trace::{Spellings, TRACE_MAX, TraceFault, Traced};
+use evc_draw_cli::Range;
 use evc_engine::{Status, report_fault};
 use std::alloc::{AllocError, Global};
 use std::io::{Read, Write};
@@ -48,26 +44,19 @@ fn picture_text(
     requires picture { kept_shapes picture.now ≡ shapes_for view.now traced.now columns }
 {
     let _ = columns;
-    let names = Names::new(traced.heading().words());
     let sheet = Sheet {
-        names: &names,
+        names: &Spellings::new(traced.heading().words()),
         chosen,
         workers: traced.heading().setup().workers(),
         picture,
         note,
     };
-    let mut text = String::new(alloc);
-    match view.form {
-        Form::Svg => put_svg(&mut text, alloc, &sheet)?,
-        Form::Text => put_text(&mut text, alloc, &sheet)?,
-        Form::Html => put_html(&mut text, alloc, &sheet)?,
-    }
-    Ok(text)
+    document(alloc, view.form, &scene_of_trace(alloc, &sheet)?)
 }
 
 /// Returns the bytes of the picture of a trace that has this many columns, with the note on a
 /// faulty line if there is one.
-fn document(
+fn picture(
     alloc: Global,
     view: &View<'_>,
     traced: &Traced,
@@ -81,26 +70,6 @@ fn document(
     let window = window_for(view.range, columns);
     let picture = picture_of(alloc, traced.run(), heading.groups(), window)?;
     picture_text(alloc, view, traced, columns, &chosen, &picture, note)
-}
-
-/// Reports that memory ran out.
-fn report_no_memory<N: Write>(notes: &mut Output<'_, N>) -> Status
-    ensures memory { result ≡ Memory }
-    ensures puts { Puts notes.old notes.new (codes "no memory\n") }
-    ensures written { IsWrittenOut notes.new }
-{
-    notes.say(b"no memory\n");
-    Status::Memory
-}
-
-/// Reports that a write failed.
-fn write_fault<N: Write>(notes: &mut Output<'_, N>) -> Status
-    ensures status { result ≡ InputOutput }
-    ensures puts { Puts notes.old notes.new (codes "write fault\n") }
-    ensures written { IsWrittenOut notes.new }
-{
-    notes.say(b"write fault\n");
-    Status::InputOutput
 }
 
 /// Reports that only the last entries of a range are drawn, if it has more than a picture can have.
@@ -131,7 +100,7 @@ fn write_whole<W: Write, N: Write>(
     ensures written { IsWrittenOut notes.old → IsWrittenOut notes.new }
 {
     let entries = traced.run().len();
-    let Ok(text) = document(alloc, view, traced, entries, None) else {
+    let Ok(text) = picture(alloc, view, traced, entries, None) else {
         return report_no_memory(notes);
     };
     match write_out(out, text.as_bytes()) {
@@ -189,7 +158,7 @@ fn write_trace_before_fault<W: Write, N: Write>(
     let Some(columns) = note.position.checked_add(1) else {
         return report_no_memory(notes);
     };
-    let Ok(text) = document(alloc, view, traced, columns, Some(*note)) else {
+    let Ok(text) = picture(alloc, view, traced, columns, Some(*note)) else {
         return report_no_memory(notes);
     };
     match write_out(out, text.as_bytes()) {
@@ -303,16 +272,6 @@ fn cut_off_fault(alloc: Global, text: &[u8]) -> Option<TraceFault>
         Err(TraceFault::Unfinished) => None,
         Err(fault) => Some(fault),
     }
-}
-
-/// Reports that a read failed.
-fn read_fault<N: Write>(notes: &mut Output<'_, N>) -> Status
-    ensures status { result ≡ InputOutput }
-    ensures puts { Puts notes.old notes.new (codes "read fault\n") }
-    ensures written { IsWrittenOut notes.new }
-{
-    notes.say(b"read fault\n");
-    Status::InputOutput
 }
 
 /// Reports the first fault of a trace after which a read failed, and draws the history up to it. If

@@ -1,11 +1,6 @@
-//! The elements of a picture.
-ghost use Rattle.std.specs.Prelude.{◌≡◌, ◌≤◌};
-
-use crate::names::Name;
-use std::alloc::AllocError;
-
-/// The outcome of a function that puts something: an error if memory ran out.
-pub(crate) type PutResult = Result<(), AllocError>;
+//! The elements of an SVG picture.
+use crate::plain::Plain;
+use crate::scene::PutResult;
 
 /// The coordinates of a pixel in a picture.
 #[derive(Clone, Copy)]
@@ -15,76 +10,97 @@ pub(crate) struct Pixel {
 }
 
 /// Returns the pixel with these coordinates.
-pub(crate) fn xy(x: u64, y: u64) -> Pixel
-    ensures across { result.x ≡ x }
-    ensures down { result.y ≡ y }
-{
+pub(crate) fn xy(x: u64, y: u64) -> Pixel {
     Pixel { x, y }
 }
 
 impl Pixel {
-    /// Returns the pixel with the same y and another x.
-    pub(crate) fn at(self, x: u64) -> Pixel {
-        Pixel { x, y: self.y }
+    pub(crate) fn right(self, by: u64) -> Pixel {
+        xy(self.x.saturating_add(by), self.y)
+    }
+
+    pub(crate) fn left(self, by: u64) -> Pixel {
+        xy(self.x.saturating_sub(by), self.y)
+    }
+
+    pub(crate) fn down(self, by: u64) -> Pixel {
+        xy(self.x, self.y.saturating_add(by))
+    }
+
+    pub(crate) fn up(self, by: u64) -> Pixel {
+        xy(self.x, self.y.saturating_sub(by))
     }
 }
 
+/// Puts a line.
 pub(crate) fn put_line(out: &mut String, class: &str, from: Pixel, to: Pixel) -> PutResult {
     let (x1, y1, x2, y2) = (from.x, from.y, to.x, to.y);
-    write!(
-        out,
-        "<line class='{class}' x1='{x1}' y1='{y1}' x2='{x2}' y2='{y2}'/>\n"
-    )
+    write!(out, "<line class='{class}' x1='{x1}' y1='{y1}' x2='{x2}' y2='{y2}'/>\n")
 }
 
-pub(crate) fn put_rect(out: &mut String, at: Pixel, width: u64, height: u64) -> PutResult {
-    let Pixel { x, y } = at;
-    write!(
-        out,
-        "<rect rx='6' x='{x}' y='{y}' width='{width}' height='{height}'/>\n"
-    )
+/// Puts the sides of a rectangle from a pixel to the x of its right edge, and the end of its element.
+pub(crate) fn put_sides(out: &mut String, at: Pixel, right: u64, height: u64) -> PutResult {
+    let (x, y, width) = (at.x, at.y, right.saturating_sub(at.x));
+    write!(out, " rx='6' x='{x}' y='{y}' width='{width}' height='{height}'/>\n")
 }
 
-/// Puts the beginning of a text. Its class has a second word, `small`, if that is not empty.
-pub(crate) fn put_text_start(out: &mut String, class: &str, small: &str, at: Pixel) -> PutResult {
-    write!(
-        out,
-        "<text class='{class}{small}' x='{}' y='{}'>",
-        at.x, at.y
-    )
+/// Puts a rectangle from a pixel to the x of its right edge.
+pub(crate) fn put_rect(
+    out: &mut String,
+    class: &str,
+    at: Pixel,
+    right: u64,
+    height: u64,
+) -> PutResult {
+    write!(out, "<rect class='{class}'")?;
+    put_sides(out, at, right, height)
 }
 
-pub(crate) fn put_text_end(out: &mut String) -> PutResult {
-    out.push_str("</text>\n")
+/// Puts a circle.
+pub(crate) fn put_circle(out: &mut String, class: &str, at: Pixel) -> PutResult {
+    write!(out, "<circle class='{class}' r='3' cx='{}' cy='{}'/>\n", at.x, at.y)
 }
 
+/// Puts a text.
+pub(crate) fn put_text(out: &mut String, class: &str, at: Pixel, text: &str) -> PutResult {
+    write!(out, "<text class='{class}' x='{}' y='{}'>{text}</text>\n", at.x, at.y)
+}
+
+/// Puts a number as a text.
 pub(crate) fn put_number(out: &mut String, class: &str, at: Pixel, number: u64) -> PutResult {
-    put_text_start(out, class, "", at)?;
-    write!(out, "{number}")?;
-    put_text_end(out)
+    write!(out, "<text class='{class}' x='{}' y='{}'>{number}</text>\n", at.x, at.y)
 }
 
-/// Puts the name to the left of a row.
-pub(crate) fn put_row_name(out: &mut String, at: Pixel, name: Name<'_>) -> PutResult {
-    let small = if name.len() > 17 { " long" } else { "" };
-    put_text_start(out, "name", small, at)?;
-    write!(out, "{name}")?;
-    put_text_end(out)
+/// Puts the beginning of a text of so many letters, which are small enough for this room.
+pub(crate) fn put_squeezed_start(
+    out: &mut String,
+    class: &str,
+    at: Pixel,
+    letters: u64,
+    room: u64,
+) -> PutResult {
+    let small = if letters.saturating_mul(6) <= room {
+        ""
+    } else if letters.saturating_mul(5) <= room {
+        " long"
+    } else {
+        " tiny"
+    };
+    write!(out, "<text class='{class}{small}' x='{}' y='{}'>", at.x, at.y)
 }
 
-/// Returns the class with which a text of this many letters fits its column.
-pub(crate) fn squeeze(letters: usize) -> &'static str {
-    match letters {
-        ..14 => "",
-        14..17 => " long",
-        _ => " tiny",
+/// Puts a text in letters that fit into this room. If the smallest don't, it is cut, and ends in `~`.
+pub(crate) fn put_squeezed(
+    out: &mut String,
+    class: &str,
+    at: Pixel,
+    text: &[u8],
+    room: u64,
+) -> PutResult {
+    let most = (room.saturating_mul(2) / 7).max(2) as usize;
+    put_squeezed_start(out, class, at, text.len() as u64, room)?;
+    match text.get(..most) {
+        Some(start) if most < text.len() => write!(out, "{}~</text>\n", Plain(start)),
+        _ => write!(out, "{}</text>\n", Plain(text)),
     }
-}
-
-/// Returns how many digits a number has.
-pub(crate) fn digits(number: u64) -> usize
-    ensures { result ≤ 20 }
-{
-    let mut digits = itoa::Buffer::new();
-    digits.format(number).len()
 }

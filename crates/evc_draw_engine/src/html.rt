@@ -1,12 +1,13 @@
-//! The picture in a page of HTML, in which it is scrolled and zoomed without a server.
+//! A scene in the format that is asked for. A page of HTML scrolls and zooms it without a server.
 
-use crate::elements::PutResult;
-use crate::sheet::Sheet;
+use crate::scene::Scene;
 use crate::svg::put_svg;
-use std::alloc::Global;
+use crate::text::put_text;
+use evc_draw_cli::Form;
+use std::alloc::{AllocError, Global};
 
 /// The page before the picture.
-pub(crate) const BEGINNING: &str = "<!DOCTYPE html>
+const BEGINNING: &str = "<!DOCTYPE html>
 <html lang='en'>
 <meta charset='utf-8'>
 <meta name='viewport' content='width=device-width'>
@@ -27,7 +28,7 @@ svg { display: block; }
 
 /// The page after the picture. A zoom goes in steps and keeps the middle of the window in place. An
 /// entry is at least 28 pixels wide.
-pub(crate) const END: &str = "<script>
+const END: &str = "<script>
 const picture = document.querySelector('svg');
 const width = picture.width.baseVal.value, height = picture.height.baseVal.value;
 let scale = 1;
@@ -56,9 +57,17 @@ addEventListener('wheel', event => {
 </script>
 ";
 
-/// Puts the page of a picture.
-pub(crate) fn put_html(out: &mut String, alloc: Global, sheet: &Sheet<'_>) -> PutResult {
-    out.push_str(BEGINNING)?;
-    put_svg(out, alloc, sheet)?;
-    out.push_str(END)
+/// Returns a scene in this format.
+pub(crate) fn document(alloc: Global, form: Form, scene: &Scene) -> Result<String, AllocError> {
+    let mut out = String::new(alloc);
+    match form {
+        Form::Svg => put_svg(&mut out, alloc, scene)?,
+        Form::Text => put_text(&mut out, scene)?,
+        Form::Html => {
+            out.push_str(BEGINNING)?;
+            put_svg(&mut out, alloc, scene)?;
+            out.push_str(END)?;
+        }
+    }
+    Ok(out)
 }

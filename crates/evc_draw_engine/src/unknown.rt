@@ -1,5 +1,5 @@
 //! Chosen names that the trace does not declare.
-ghost use Rattle.std.specs.Prelude.{◌≡◌};
+ghost use Rattle.std.specs.Prelude.{◌≡◌, ◌<◌, ◌⊎◌, false, length, IsSome, IsTrue};
 ghost use Rattle.std.specs.List.{flat_map, list_any};
 ghost use Rattle.ec_text.specs.Puts.{Puts, IsWrittenOut};
 ghost use Rattle.evc_draw_engine.specs.Unknown.{has_unknown, is_object, is_worker};
@@ -9,6 +9,7 @@ ghost use Rattle.evc_draw_engine.specs.Unknown.{worker_note};
 
 use ec_count::{SymbolTable, Target};
 use ec_draw::NameFilter;
+use ec_heading::Heading;
 use ec_text::Output;
 use std::io::Write;
 
@@ -132,4 +133,54 @@ pub(crate) fn report_unknown<N: Write>(
 {
     put_unknown_notes(notes, words, choice);
     notes.flush();
+}
+
+/// Returns the first of these names that is that of no worker.
+fn unknown_worker<'a>(heading: &Heading, names: &[&'a str]) -> Option<&'a str>
+    ensures { IsSome result → 0 < length names.now }
+{
+    for name in names {
+        if is_unknown_worker(heading.words(), name) {
+            return Some(*name);
+        }
+    }
+    None
+}
+
+/// Returns the first of these names that is that of no object, and no cell of a block.
+fn unknown_object<'a>(heading: &Heading, names: &[&'a str]) -> Option<&'a str>
+    ensures { IsSome result → 0 < length names.now }
+{
+    for name in names {
+        let is_cell = heading.cell(name.as_bytes()).is_some();
+        if !is_cell && is_unknown_object(heading.words(), name) {
+            return Some(*name);
+        }
+    }
+    None
+}
+
+/// Writes a note on the first chosen name that a history does not declare, and returns whether there
+/// is one.
+pub(crate) fn report_undeclared<N: Write>(
+    heading: &Heading,
+    choice: &NameFilter<'_>,
+    notes: &mut Output<'_, N>,
+) -> bool
+    ensures chosen { IsTrue result
+        → (0 < length choice.now.workers.now) ⊎ (0 < length choice.now.objects.now) }
+    ensures quiet { result ≡ false → notes.new ≡ notes.old }
+    ensures written { IsTrue result → IsWrittenOut notes.new }
+{
+    if let Some(name) = unknown_worker(heading, choice.workers) {
+        put_unknown(notes, b"no worker ", name.as_bytes());
+        notes.flush();
+        return true;
+    }
+    if let Some(name) = unknown_object(heading, choice.objects) {
+        put_unknown(notes, b"no object ", name.as_bytes());
+        notes.flush();
+        return true;
+    }
+    false
 }

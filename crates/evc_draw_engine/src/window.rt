@@ -1,5 +1,5 @@
 //! Which entries are drawn.
-ghost use Rattle.std.specs.Prelude.{◌≡◌, ◌<◌, ◌≤◌, false};
+ghost use Rattle.std.specs.Prelude.{◌≡◌, ◌<◌, ◌≤◌, false, IsTrue};
 ghost use Rattle.ec_text.specs.Puts.{Puts, IsWrittenOut};
 ghost use Rattle.evc_draw_engine.specs.Windows.{empty_note, is_empty, is_whole, is_wide, last_of};
 ghost use Rattle.evc_draw_engine.specs.Windows.{last_words, range_words, window_for, window_on};
@@ -52,7 +52,8 @@ pub(crate) fn is_whole(range: Range) -> bool
 
 /// Returns whether a range was given, and has none of `entries` entries.
 pub(crate) fn is_empty(range: Range, entries: usize) -> bool
-    ensures { result ≡ is_empty range entries }
+    ensures value { result ≡ is_empty range entries }
+    ensures given { IsTrue result → is_whole range ≡ false }
 {
     !is_whole(range) && range.to.min(entries) <= range.from
 }
@@ -98,4 +99,15 @@ pub(crate) fn report_empty<N: Write>(notes: &mut Output<'_, N>, range: Range, en
 {
     put_empty_note(notes, range, entries);
     notes.flush();
+}
+
+/// Writes the note on a range without events of a history.
+pub(crate) fn report_no_event<N: Write>(notes: &mut Output<'_, N>, range: Range, events: usize)
+    ensures { IsWrittenOut notes.new }
+{
+    notes.put(b"no event ");
+    put_range(notes, range);
+    notes.put(b": the history has ");
+    notes.put_number(events as u64);
+    notes.say(b" events\n");
 }

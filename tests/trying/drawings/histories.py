@@ -70,19 +70,23 @@ class Text(NamedTuple):
     limits: list
 
 
+# The width of the names.
+NAMES = 23
+
+
 def text_of(output, workers):
-    """Reads a picture that is a text."""
+    """Reads a picture that is a text. The first cell of a row is that of the moment before the first event."""
     lines = output.split("\n")
-    events = [int(it) for it in lines[0][18:].split()]
-    places = (len(lines[0]) - 18) // len(events) if events else 4
+    events = [int(it) for it in lines[0][NAMES:].split()]
+    places = (len(lines[0]) - NAMES) // (len(events) + 1)
     blank = lines.index("")
     rows, panels, now = {}, {}, None
     for line in lines[2:blank]:
-        name = line[:18].strip()
-        if now is None and name in workers and name not in rows and len(line) > 18 + len(events) * places:
-            rows[name] = line[18:]
-        elif now is not None and name in ("count", "least", "most") and len(line) > 18:
-            panels[now][name] = [int(it) for it in line[18:].split()]
+        name = line[:NAMES].strip()
+        if now is None and name in workers and name not in rows and len(line) > NAMES + len(events) * places:
+            rows[name] = line[NAMES + places :]
+        elif now is not None and name in ("count", "least", "most") and len(line) > NAMES:
+            panels[now][name] = [int(it) for it in line[NAMES:].split()]
         else:
             now = line
             panels[now] = {}

@@ -8,7 +8,7 @@ from trying.drawings.histories import counts
 from trying.drawings.pictures import SPACE
 
 # Where the first column begins, the height of a lane, and the most lanes.
-LEFT, LANE, LANES = 164, 22, 16
+LEFT, LANE, LANES = 136, 22, 16
 
 
 class Shapes:

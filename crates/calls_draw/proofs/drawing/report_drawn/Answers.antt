@@ -1,8 +1,0 @@
-use Rattle.calls_draw.proofs.drawing.report_drawn.Goals as goal
-
-pub returns-clause-says : goal.returns-clause-says
-returns-clause-says g c = λ text said. (
-  c.report_as_check-status.new.notes,
-  c.report_as_check-status.ensures.says text said,
-  c.report_cut.ensures.says,
-)

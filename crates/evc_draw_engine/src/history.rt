@@ -1,0 +1,268 @@
+//! What is drawn of a history of calls.
+use crate::evidence::{Evidence, evidence_of};
+use crate::plain::{Plain, Words};
+use crate::scene::{Grid, NEVER};
+use crate::view::View;
+use crate::window::{is_whole, window_for};
+use calls_core::{Call, Kind, Order, Part, Reply};
+use calls_report::LastHistory;
+use calls_shapes::bars_of;
+use calls_text::Lists;
+use calls_verdict::{Refusal, Verdict};
+use ec_count::{Target, WorkerId};
+use ec_draw::Selection;
+use ec_heading::Heading;
+use ec_text::{cut_line, cut_word};
+use evc_draw_cli::Range;
+use std::alloc::{AllocError, Global};
+
+/// A call in a linearization: its point, and the x of its mark.
+#[derive(Clone, Copy)]
+pub(crate) struct PlacedMark {
+    pub(crate) call: Call,
+    pub(crate) point: usize,
+    pub(crate) x: u64,
+}
+
+/// What is drawn of a history.
+#[derive(Drop)]
+pub(crate) struct History<'a> {
+    pub(crate) heading: &'a Heading,
+    pub(crate) kinds: &'a [Kind],
+    pub(crate) lists: &'a Lists,
+    pub(crate) events: Part<'a>,
+    /// The line of each event.
+    lines: Vec<&'a [u8]>,
+    /// The number of the line of the event at position 0.
+    pub(crate) first_line: u64,
+    pub(crate) grid: Grid,
+    pub(crate) chosen: Selection,
+    objects: &'a [&'a str],
+    /// The calls that are drawn: the completed ones, and then the pending ones. Those end `NEVER`.
+    pub(crate) calls: Vec<Call>,
+    /// The linearization; none if there is none or the history is not decided.
+    pub(crate) order: Option<&'a Order>,
+    pub(crate) marks: Vec<PlacedMark>,
+    /// For each event the linearization point of the call that it invokes, 0 if it has none.
+    points: Vec<usize>,
+    pub(crate) evidence: Option<Evidence<'a>>,
+    /// Whether not all events are drawn that are asked for.
+    pub(crate) is_cut: bool,
+}
+
+/// Returns the refusal of a verdict, `None` if it rejects nothing.
+pub(crate) fn refusal_of(verdict: &Verdict) -> Option<&Refusal> {
+    match verdict {
+        Verdict::Refused(refusal) => Some(refusal),
+        _ => None,
+    }
+}
+
+/// Returns the events that are drawn: all of them, or those up to the first faulty one.
+pub(crate) fn drawn_events<'a>(found: &'a LastHistory<'_>) -> Part<'a> {
+    let all = found.read.recording.events();
+    match refusal_of(&found.verdict) {
+        Some(refusal) => Part::prefix(all, refusal.at.saturating_add(1)),
+        None => Part::whole(all),
+    }
+}
+
+/// Returns `count` lines of a text, without the first `before` ones.
+fn lines_of(
+    alloc: Global,
+    text: &[u8],
+    before: u64,
+    count: usize,
+) -> Result<Vec<&[u8]>, AllocError> {
+    let mut lines = Vec::new(alloc);
+    let mut rest = text;
+    for number in 0..before.saturating_add(count as u64) {
+        if let Some((line, behind)) = cut_line(rest) {
+            if before <= number {
+                lines.push(line)?;
+            }
+            rest = behind;
+        }
+    }
+    Ok(lines)
+}
+
+/// Returns the calls of these events: the completed ones, and then the pending ones.
+fn calls_of(alloc: Global, events: &Part<'_>) -> Result<Vec<Call>, AllocError> {
+    let bars = bars_of(alloc, events)?;
+    let pending = bars.pending.iter().map(|call| Call {
+        worker: call.worker,
+        object: call.object,
+        op: call.op,
+        reply: Reply::Done,
+        first: call.first,
+        last: NEVER,
+    });
+    bars.completed.iter().copied().chain(pending).collect(alloc)
+}
+
+/// Returns the calls of a linearization, not yet with the x of their marks.
+fn placed_calls(alloc: Global, order: &Order) -> Result<Vec<PlacedMark>, AllocError> {
+    let mut marks = Vec::new(alloc);
+    for i in 0..order.len() {
+        let placed = order.at(i);
+        marks.push(PlacedMark { call: placed.call, point: placed.point, x: 0 })?;
+    }
+    Ok(marks)
+}
+
+/// Returns how many calls in a row from an index on have the same point.
+fn same_points(marks: &[PlacedMark], i: usize) -> usize {
+    let rest = marks.get(i..).unwrap_or(&[]);
+    let first = rest.first().map(|mark| mark.point);
+    let other = rest.iter().position(|mark| Some(mark.point) != first);
+    other.unwrap_or(rest.len())
+}
+
+/// Sets the x of the marks. Those of one point are spread evenly over the moment before its event.
+fn spread(grid: &Grid, marks: &mut [PlacedMark]) {
+    let (mut first, mut next) = (0usize, 0usize);
+    for i in 0..marks.len() {
+        if i >= next {
+            (first, next) = (i, i.saturating_add(same_points(marks, i)));
+        }
+        let mark = &mut marks[i];
+        let from = grid.moment(mark.point);
+        let room = grid.x(mark.point).saturating_sub(from);
+        let rank = i.saturating_sub(first).saturating_add(1) as u64;
+        let count = next.saturating_sub(first).saturating_add(1) as u64;
+        mark.x = from.saturating_add(room.saturating_mul(rank) / count.max(1));
+    }
+}
+
+/// Returns for each event the point of the call that it invokes, 0 if it has none.
+fn points_of(alloc: Global, count: usize, marks: &[PlacedMark]) -> Result<Vec<usize>, AllocError> {
+    let mut points = vec![in alloc; 0usize; count]?;
+    for mark in marks {
+        if let Some(point) = points.get_mut(mark.call.first) {
+            *point = mark.point;
+        }
+    }
+    Ok(points)
+}
+
+/// Returns whether a name chooses an object: it is its name, or that of the block of it.
+fn is_name_of(name: &[u8], object: &[u8]) -> bool {
+    let rest = object.get(name.len()..).unwrap_or(b"?");
+    object.starts_with(name) && (rest.is_empty() || rest.starts_with(b"["))
+}
+
+/// Returns the range of a view, from shortly before the evidence on if none was given.
+fn range_of(range: Range, evidence: &Option<Evidence<'_>>, count: usize) -> Range {
+    match evidence {
+        Some(evidence) if is_whole(range) => Range {
+            from: evidence.usual_from(count),
+            to: range.to,
+        },
+        _ => range,
+    }
+}
+
+impl<'a> History<'a> {
+    /// Returns what a view shows of a history.
+    pub(crate) fn of(
+        alloc: Global,
+        view: &View<'a>,
+        found: &'a LastHistory<'a>,
+    ) -> Result<History<'a>, AllocError> {
+        let (read, events) = (&found.read, drawn_events(found));
+        let (recording, count) = (&read.recording, events.len());
+        let heading = recording.heading();
+        let whole = recording.events().len() as u64;
+        let first_line = read.number.saturating_sub(1).saturating_sub(whole);
+        let before = first_line.saturating_sub(found.number);
+        let evidence = match refusal_of(&found.verdict) {
+            Some(refusal) => Some(evidence_of(alloc, recording.kinds(), &events, refusal)?),
+            None => None,
+        };
+        let range = range_of(view.range, &evidence, count);
+        let grid = Grid::of_events(window_for(range, count));
+        let order = match &found.verdict {
+            Verdict::Linearizable(order) if order.len() > 0 => Some(order),
+            _ => None,
+        };
+        let mut marks = match order {
+            Some(order) => placed_calls(alloc, order)?,
+            None => Vec::new(alloc),
+        };
+        spread(&grid, &mut marks);
+        let mut history = History {
+            heading,
+            kinds: recording.kinds(),
+            lists: recording.lists(),
+            lines: lines_of(alloc, found.text, before, count)?,
+            first_line,
+            grid,
+            chosen: Selection::new(alloc, &view.choice, heading.words())?,
+            objects: view.choice.objects,
+            calls: Vec::new(alloc),
+            order,
+            points: points_of(alloc, count, &marks)?,
+            marks,
+            evidence,
+            is_cut: range.from < grid.window.from,
+            events,
+        };
+        let all = calls_of(alloc, &history.events)?;
+        history.calls = all.iter().filter(|call| history.draws(call)).copied().collect(alloc)?;
+        Ok(history)
+    }
+
+    /// Returns whether a worker is drawn.
+    pub(crate) fn draws_worker(&self, worker: usize) -> bool {
+        WorkerId::new(worker).is_some_and(|worker| self.chosen.draws_worker(worker))
+    }
+
+    /// Returns whether an object with this name is drawn.
+    pub(crate) fn draws_object(&self, object: &[u8]) -> bool {
+        let mut names = self.objects.iter();
+        self.objects.is_empty() || names.any(|name| is_name_of(name.as_bytes(), object))
+    }
+
+    /// Returns whether a call is drawn.
+    pub(crate) fn draws(&self, call: &Call) -> bool {
+        let words = Words::of(self.act(call));
+        let is_chosen = self.draws_object(words.object)
+            || (words.is_of_both() && self.draws_object(words.rest));
+        is_chosen && self.draws_worker(call.worker) && self.grid.window.meets(call.first, call.last)
+    }
+
+    /// Returns the row of a worker.
+    pub(crate) fn row(&self, worker: usize) -> u64 {
+        self.chosen.workers_before(worker) as u64
+    }
+
+    /// Returns the name of a worker.
+    pub(crate) fn worker(&self, worker: usize) -> Plain<'a> {
+        let names = self.heading.names();
+        let name = WorkerId::new(worker).and_then(|id| names.name_of(Target::Worker(id)));
+        Plain(name.map_or(b"", |name| name.as_bytes()))
+    }
+
+    /// Returns what the line of an event has after the worker and another word.
+    fn event_text(&self, position: usize) -> &'a [u8] {
+        let line = self.lines.get(position).copied().unwrap_or(b"");
+        let rest = cut_word(line).1.unwrap_or(b"");
+        cut_word(rest).1.unwrap_or(b"")
+    }
+
+    /// Returns the operation of a call, as `await E 2`.
+    pub(crate) fn act(&self, call: &Call) -> &'a [u8] {
+        self.event_text(call.first)
+    }
+
+    /// Returns what a call returned, `pending` if it did not.
+    pub(crate) fn reply(&self, call: &Call) -> &'a [u8] {
+        if call.last < self.events.len() { self.event_text(call.last) } else { b"pending" }
+    }
+
+    /// Returns the point of a call, 0 if it has none.
+    pub(crate) fn point(&self, call: &Call) -> usize {
+        self.points.get(call.first).copied().unwrap_or(0)
+    }
+}
