@@ -1,182 +1,19 @@
-//! The scene of a history of calls.
+//! Draws a history of calls.
 ghost use Rattle.std.specs.Prelude.{◌<◌, length, IfSome};
 
 use crate::evidence::Evidence;
 use crate::history::History;
 use crate::limits::Extent;
-use crate::objects::add_panels;
+use crate::objects::put_panels;
 use crate::plain::Plain;
-use crate::scene::{
-    Bar, Cell, Mark, NEVER, PutResult, Scene, TableRow, WrongColumn, number_cell, sign_cell,
-};
+use crate::sheet::{Bar, PutResult, Sheet};
 use calls_core::{Action, Call, Kind};
 use calls_shapes::Stair;
-use ec_count::WorkerId;
 use ec_text::cut_line;
 use std::alloc::{AllocError, Global};
 
 /// The most letters of a line of a note that has spaces.
 const LETTERS: usize = 110;
-
-/// Returns whether all calls are of one object, which then needs no name. Semaphores need theirs.
-fn has_one_object(history: &History<'_>) -> bool {
-    let mut first = None;
-    for i in 0..history.events.len() {
-        if let Action::Invoke(object, _) = history.events.at(i).action {
-            if first.is_some_and(|known| known != object) {
-                return false;
-            }
-            first = Some(object);
-        }
-    }
-    let kind = first.and_then(|object| history.kinds.get(object));
-    !matches!(kind, Some(Kind::Semaphores(_)))
-}
-
-/// Adds a row of numbers, one for each event, from this one on.
-fn add_head(
-    alloc: Global,
-    scene: &mut Scene,
-    history: &History<'_>,
-    name: &str,
-    first: u64,
-) -> PutResult {
-    let window = history.grid.window;
-    let mut cells = Vec::new(alloc);
-    cells.push(sign_cell("", false))?;
-    for position in window.from..window.to {
-        cells.push(number_cell(first.saturating_add(position as u64)))?;
-    }
-    let name = String::from_str(alloc, name)?;
-    Ok(scene.heads.push(TableRow { name, cells })?)
-}
-
-/// Returns the title of a call: its words, its events, and its linearization point if it has one.
-fn title_of(alloc: Global, history: &History<'_>, call: &Call) -> Result<String, AllocError> {
-    let (worker, act) = (history.worker(call.worker), Plain(history.act(call)));
-    let (reply, first, last) = (Plain(history.reply(call)), call.first, call.last);
-    let mut title = format!(in alloc; "{worker} {act} = {reply}")?;
-    if last < history.events.len() {
-        write!(title, ", events {first} to {last}")?;
-    } else {
-        write!(title, ", from event {first}")?;
-    }
-    match history.point(call) {
-        0 => {}
-        point => write!(title, ", point {point}")?,
-    }
-    Ok(title)
-}
-
-/// Adds a bar for each call.
-fn add_bars(alloc: Global, scene: &mut Scene, history: &History<'_>) -> PutResult {
-    for call in history.calls.as_slice() {
-        let frame = history.evidence.as_ref().map_or("", |evidence| evidence.frame(call));
-        scene.bars.push(Bar {
-            row: history.row(call.worker),
-            first: call.first,
-            last: call.last,
-            act: format!(in alloc; "{}", Plain(history.act(call)))?,
-            reply: format!(in alloc; "{}", Plain(history.reply(call)))?,
-            title: title_of(alloc, history, call)?,
-            frame,
-            round: None,
-        })?;
-    }
-    Ok(())
-}
-
-/// Adds the marks at the linearization points of the calls that are drawn.
-fn add_marks(scene: &mut Scene, history: &History<'_>) -> PutResult {
-    let window = history.grid.window;
-    for mark in history.marks.as_slice() {
-        let is_shown = window.from <= mark.point && mark.point <= window.to;
-        if is_shown && history.draws(&mark.call) {
-            scene.marks.push(Mark {
-                row: history.row(mark.call.worker),
-                x: mark.x,
-                tie: None,
-            })?;
-        }
-    }
-    Ok(())
-}
-
-/// Returns the cell at a position in a worker's row: `(` at an invocation, `)` at a response, and a
-/// star before the event if a linearization point is there.
-fn cell_at(history: &History<'_>, calls: &[Call], position: usize) -> Cell {
-    let over = calls.iter().find(|call| call.first < position && position <= call.last);
-    let Some(call) = over else {
-        let begins = calls.iter().any(|call| call.first == position);
-        return sign_cell(if begins { "(" } else { "" }, false);
-    };
-    let is_after = position == history.grid.window.to;
-    let sign = match (history.point(call) == position, is_after, call.last == position) {
-        (true, true, _) => "*->",
-        (true, false, true) => "*-)",
-        (true, false, false) => "*--",
-        (false, true, _) => ">",
-        (false, false, true) => ")",
-        (false, false, false) => "",
-    };
-    sign_cell(sign, true)
-}
-
-/// Adds the rows of the workers that are drawn. After the last event is another cell.
-fn add_rows(alloc: Global, scene: &mut Scene, history: &History<'_>) -> PutResult {
-    let window = history.grid.window;
-    for number in 0..history.heading.setup().workers() {
-        if history.draws_worker(number) {
-            let calls = history.calls.iter().filter(|call| call.worker == number);
-            let own: Vec<Call> = calls.copied().collect(alloc)?;
-            let mut cells = Vec::new(alloc);
-            cells.push(sign_cell("", false))?;
-            for position in window.from..=window.to {
-                cells.push(cell_at(history, &own, position))?;
-            }
-            let name = format!(in alloc; "{}", history.worker(number))?;
-            scene.rows.push(TableRow { name, cells })?;
-        }
-    }
-    Ok(())
-}
-
-/// Returns the line of a stair.
-fn stair_line(alloc: Global, stair: &Stair) -> Result<String, AllocError> {
-    let span = &stair.span;
-    let mut line = format!(in alloc; "stair: {} from event {}", span.base, span.from)?;
-    for (i, rise) in stair.rises.iter().enumerate() {
-        write!(line, "{} {rise}", if i == 0 { ", up at" } else { "" })?;
-    }
-    write!(line, ", to event {}", span.to)?;
-    Ok(line)
-}
-
-/// Adds lines on the evidence: the calls that it names, its stairs and its limits.
-fn add_evidence_lines(
-    alloc: Global,
-    lines: &mut Vec<String>,
-    history: &History<'_>,
-    evidence: &Evidence<'_>,
-) -> PutResult {
-    for call in evidence.faulty.as_slice() {
-        let title = title_of(alloc, history, call)?;
-        lines.push(format!(in alloc; "named: {}", title.as_str())?)?;
-    }
-    for stair in evidence.stairs.as_slice() {
-        lines.push(stair_line(alloc, stair)?)?;
-    }
-    for limit in evidence.limits.as_slice() {
-        let words = limit.words.as_str();
-        let side = match limit.extent {
-            Extent::From => "from",
-            Extent::To => "to",
-            Extent::At => "at",
-        };
-        lines.push(format!(in alloc; "limit: {words} {side} event {}", limit.at)?)?;
-    }
-    Ok(())
-}
 
 /// Returns the first line of a note, up to its last space before `LETTERS` if it has more, and what
 /// is after it.
@@ -191,36 +28,182 @@ fn first_piece(note: &[u8]) -> Option<(&[u8], &[u8])>
     }
 }
 
-/// Returns the lines of a note.
-fn note_lines(alloc: Global, note: &[u8]) -> Result<Vec<String>, AllocError> {
-    let mut lines = Vec::new(alloc);
+/// Puts the lines of a note.
+fn put_note(alloc: Global, sheet: &mut Sheet, class: &str, note: &[u8]) -> PutResult {
+    if !note.is_empty() {
+        sheet.lines.push_str("\n")?;
+    }
     let mut rest = note;
     while let Some((line, behind)) = first_piece(rest) {
-        lines.push(format!(in alloc; "{}", Plain(line))?)?;
+        let text = format!(in alloc; "{}", Plain(line))?;
+        sheet.note(class, text.as_str())?;
         rest = behind;
     }
-    Ok(lines)
+    Ok(())
 }
 
-/// Returns the scene of a history, with this note on its text.
-pub(crate) fn scene_of_history(
-    alloc: Global,
-    history: &History<'_>,
-    note: &[u8],
-) -> Result<Scene, AllocError> {
-    let mut scene = Scene::new(alloc, history.grid);
-    scene.is_single = has_one_object(history);
-    add_head(alloc, &mut scene, history, "event", 0)?;
-    add_head(alloc, &mut scene, history, "line", history.first_line)?;
-    add_rows(alloc, &mut scene, history)?;
-    add_bars(alloc, &mut scene, history)?;
-    add_marks(&mut scene, history)?;
-    add_panels(alloc, &mut scene, history)?;
-    scene.note = note_lines(alloc, note)?;
-    if let Some(evidence) = &history.evidence {
-        scene.note_class = "fault";
-        scene.wrong = Some(WrongColumn { position: evidence.refusal.at, reply: None });
-        add_evidence_lines(alloc, &mut scene.lines, history, evidence)?;
+/// Puts the line of a stair.
+fn put_stair(lines: &mut String, stair: &Stair) -> PutResult {
+    write!(
+        lines,
+        "stair: {} from event {}",
+        stair.span.base, stair.span.from
+    )?;
+    for (i, rise) in stair.rises.iter().enumerate() {
+        write!(lines, "{} {rise}", if i == 0 { ", up at" } else { "" })?;
     }
-    Ok(scene)
+    write!(lines, ", to event {}\n", stair.span.to)
+}
+
+impl History<'_> {
+    /// Returns whether all calls are of one object, which then needs no name. Semaphores need theirs.
+    fn has_one_object(&self) -> bool {
+        let mut first = None;
+        for i in 0..self.events.len() {
+            if let Action::Invoke(object, _) = self.events.at(i).action {
+                if first.is_some_and(|known| known != object) {
+                    return false;
+                }
+                first = Some(object);
+            }
+        }
+        let kind = first.and_then(|object| self.kinds.get(object));
+        !matches!(kind, Some(Kind::Semaphores(_)))
+    }
+
+    /// Returns the title of a call: its words, its events, and its linearization point if it has one.
+    fn title(&self, call: &Call) -> Result<String, AllocError> {
+        let (worker, act) = (self.worker(call.worker), Plain(self.act(call)));
+        let (reply, first, last) = (Plain(self.reply(call)), call.first, call.last);
+        let mut title = format!(in self.alloc; "{worker} {act} = {reply}")?;
+        if last < self.events.len() {
+            write!(title, ", events {first} to {last}")?;
+        } else {
+            write!(title, ", from event {first}")?;
+        }
+        if self.point(call) > 0 {
+            write!(title, ", point {}", self.point(call))?;
+        }
+        Ok(title)
+    }
+
+    /// Puts a bar for each call.
+    fn put_bars(&self, sheet: &mut Sheet) -> PutResult {
+        for call in self.calls.as_slice() {
+            let evidence = self.evidence.as_ref();
+            let bar = Bar {
+                row: self.row(call.worker),
+                first: call.first,
+                last: call.last,
+                act: self.act(call),
+                reply: self.reply(call),
+                frame: evidence.map_or("", |evidence| evidence.frame(call)),
+                round: 0,
+            };
+            sheet.bar(&bar, self.title(call)?.as_str())?;
+        }
+        Ok(())
+    }
+
+    /// Puts the marks at the linearization points of the calls that are drawn.
+    fn put_marks(&self, sheet: &mut Sheet) -> PutResult {
+        let window = self.grid.window;
+        for mark in self.marks.as_slice() {
+            let is_shown = window.from <= mark.point && mark.point <= window.to;
+            if is_shown && self.draws(&mark.call) {
+                sheet.mark(self.row(mark.call.worker), mark.x, None)?;
+            }
+        }
+        Ok(())
+    }
+
+    /// Puts the cell at a position in the row of these calls: `(` at an invocation, `)` at a
+    /// response, and a star before the event if a linearization point is there.
+    fn put_cell(&self, sheet: &mut Sheet, calls: &[Call], position: usize) -> PutResult {
+        let mut over = calls
+            .iter()
+            .filter(|it| it.first < position && position <= it.last);
+        let Some(call) = over.next() else {
+            let begins = calls.iter().any(|call| call.first == position);
+            return sheet.cell(if begins { "(" } else { "" }, false);
+        };
+        let is_after = position == self.grid.window.to;
+        let sign = match (
+            self.point(call) == position,
+            is_after,
+            call.last == position,
+        ) {
+            (true, true, _) => "*->",
+            (true, false, true) => "*-)",
+            (true, false, false) => "*--",
+            (false, true, _) => ">",
+            (false, false, true) => ")",
+            (false, false, false) => "",
+        };
+        sheet.cell(sign, true)
+    }
+
+    /// Puts the row of a worker. After the last event is another cell.
+    fn put_row(&self, sheet: &mut Sheet, worker: usize) -> PutResult {
+        let calls = self.calls.iter().filter(|call| call.worker == worker);
+        let own: Vec<Call> = calls.copied().collect(self.alloc)?;
+        sheet.row(self.worker(worker))?;
+        for position in self.grid.window.from..=self.grid.window.to {
+            self.put_cell(sheet, &own, position)?;
+        }
+        sheet.end_row()
+    }
+
+    /// Puts the rows of the workers that are drawn.
+    fn put_rows(&self, sheet: &mut Sheet) -> PutResult {
+        for worker in 0..self.heading.setup().workers() {
+            if self.draws_worker(worker) {
+                self.put_row(sheet, worker)?;
+            }
+        }
+        sheet.columns()
+    }
+
+    /// Puts lines on the evidence: the calls that it names, its stairs and its limits.
+    fn put_evidence(&self, lines: &mut String, evidence: &Evidence<'_>) -> PutResult {
+        for call in evidence.faulty.as_slice() {
+            write!(lines, "named: {}\n", self.title(call)?.as_str())?;
+        }
+        for stair in evidence.stairs.as_slice() {
+            put_stair(lines, stair)?;
+        }
+        for limit in evidence.limits.as_slice() {
+            let side = match limit.extent {
+                Extent::From => "from",
+                Extent::To => "to",
+                Extent::At => "at",
+            };
+            let words = limit.words.as_str();
+            write!(lines, "limit: {words} {side} event {}\n", limit.at)?;
+        }
+        Ok(())
+    }
+
+    /// Returns the sheet with all that is drawn, and this note on the text.
+    pub(crate) fn draw(&self, note: &[u8]) -> Result<Sheet, AllocError> {
+        let (window, mut sheet) = (self.grid.window, Sheet::new(self.alloc, self.grid));
+        let last = self.first_line.saturating_add(window.to as u64);
+        sheet.is_wide = 1000 <= last;
+        sheet.is_single = self.has_one_object();
+        let (first, count) = (window.from as u64, window.columns());
+        sheet.head("event", 18, first, count, "")?;
+        sheet.head("line", 30, self.first_line.saturating_add(first), count, "")?;
+        self.put_rows(&mut sheet)?;
+        put_panels(self.alloc, &mut sheet, self)?;
+        self.put_bars(&mut sheet)?;
+        self.put_marks(&mut sheet)?;
+        let mut class = "remark";
+        if let Some(evidence) = &self.evidence {
+            class = "fault";
+            sheet.wrong_column(evidence.refusal.at)?;
+            self.put_evidence(&mut sheet.lines, evidence)?;
+        }
+        put_note(self.alloc, &mut sheet, class, note)?;
+        Ok(sheet)
+    }
 }

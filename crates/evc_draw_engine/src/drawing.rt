@@ -16,7 +16,7 @@ use crate::histories::{draw_histories, is_calls};
 use crate::html::document;
 use crate::note::Note;
 use crate::reports::{read_fault, report_no_memory, write_fault};
-use crate::trace::{Sheet, scene_of_trace};
+use crate::trace::TraceShapes;
 use crate::unknown::{has_unknown, report_unknown};
 use crate::view::View;
 use crate::window::{is_empty, is_wide, report_empty, window_for};
@@ -44,14 +44,15 @@ fn picture_text(
     requires picture { kept_shapes picture.now ≡ shapes_for view.now traced.now columns }
 {
     let _ = columns;
-    let sheet = Sheet {
+    let shapes = TraceShapes {
+        alloc,
         names: &Spellings::new(traced.heading().words()),
         chosen,
         workers: traced.heading().setup().workers(),
         picture,
         note,
     };
-    document(alloc, view.form, &scene_of_trace(alloc, &sheet)?)
+    document(alloc, view.form, &shapes.draw()?)
 }
 
 /// Returns the bytes of the picture of a trace that has this many columns, with the note on a

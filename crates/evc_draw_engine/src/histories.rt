@@ -7,7 +7,6 @@ ghost use Rattle.evc_draw_engine.specs.Draws.{DrawsHistories};
 ghost use Rattle.evc_draw_engine.specs.Histories.{AsksForPart, DrawsOne, IsNoteOn, SaysAsCheck};
 ghost use Rattle.evc_draw_engine.specs.Histories.{SaysOfPicture, WritesOne, cut_note, status_as};
 
-use crate::calls::scene_of_history;
 use crate::history::{History, drawn_events};
 use crate::html::document;
 use crate::reports::{report_no_memory, write_fault};
@@ -132,9 +131,11 @@ fn draw_picture(
     found: &LastHistory<'_>,
 ) -> Result<Drawing, AllocError> {
     let history = History::of(alloc, view, found)?;
-    let scene = scene_of_history(alloc, &history, note)?;
-    let text = document(alloc, view.form, &scene)?;
-    Ok(Drawing { text, is_cut: history.is_cut })
+    let text = document(alloc, view.form, &history.draw(note)?)?;
+    Ok(Drawing {
+        text,
+        is_cut: history.is_cut,
+    })
 }
 
 /// Reports that only the last events are drawn, if it is so.

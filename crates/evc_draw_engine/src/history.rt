@@ -1,7 +1,7 @@
 //! What is drawn of a history of calls.
 use crate::evidence::{Evidence, evidence_of};
+use crate::grid::{Grid, NEVER};
 use crate::plain::{Plain, Words};
-use crate::scene::{Grid, NEVER};
 use crate::view::View;
 use crate::window::{is_whole, window_for};
 use calls_core::{Call, Kind, Order, Part, Reply};
@@ -27,9 +27,10 @@ pub(crate) struct PlacedMark {
 /// What is drawn of a history.
 #[derive(Drop)]
 pub(crate) struct History<'a> {
+    pub(crate) alloc: Global,
     pub(crate) heading: &'a Heading,
     pub(crate) kinds: &'a [Kind],
-    pub(crate) lists: &'a Lists,
+    lists: &'a Lists,
     pub(crate) events: Part<'a>,
     /// The line of each event.
     lines: Vec<&'a [u8]>,
@@ -106,7 +107,11 @@ fn placed_calls(alloc: Global, order: &Order) -> Result<Vec<PlacedMark>, AllocEr
     let mut marks = Vec::new(alloc);
     for i in 0..order.len() {
         let placed = order.at(i);
-        marks.push(PlacedMark { call: placed.call, point: placed.point, x: 0 })?;
+        marks.push(PlacedMark {
+            call: placed.call,
+            point: placed.point,
+            x: 0,
+        })?;
     }
     Ok(marks)
 }
@@ -192,6 +197,7 @@ impl<'a> History<'a> {
         };
         spread(&grid, &mut marks);
         let mut history = History {
+            alloc,
             heading,
             kinds: recording.kinds(),
             lists: recording.lists(),
@@ -209,7 +215,11 @@ impl<'a> History<'a> {
             events,
         };
         let all = calls_of(alloc, &history.events)?;
-        history.calls = all.iter().filter(|call| history.draws(call)).copied().collect(alloc)?;
+        history.calls = all
+            .iter()
+            .filter(|call| history.draws(call))
+            .copied()
+            .collect(alloc)?;
         Ok(history)
     }
 
@@ -228,7 +238,7 @@ impl<'a> History<'a> {
     pub(crate) fn draws(&self, call: &Call) -> bool {
         let words = Words::of(self.act(call));
         let is_chosen = self.draws_object(words.object)
-            || (words.is_of_both() && self.draws_object(words.rest));
+            || (words.verb == b"pboth".as_slice() && self.draws_object(words.rest));
         is_chosen && self.draws_worker(call.worker) && self.grid.window.meets(call.first, call.last)
     }
 
@@ -256,9 +266,28 @@ impl<'a> History<'a> {
         self.event_text(call.first)
     }
 
+    /// Returns a value of a cell or a database. A database has lists as values: its value n is the
+    /// list n - 1, and 0 is all zeros.
+    pub(crate) fn value_text(&self, object: usize, value: usize) -> Result<String, AllocError> {
+        let Some(Kind::Database(count)) = self.kinds.get(object) else {
+            return format!(in self.alloc; "{value}");
+        };
+        let list = self.lists.get(value.wrapping_sub(1)).unwrap_or(&[]);
+        let mut text = String::new(self.alloc);
+        for i in 0..*count {
+            let space = if i > 0 { " " } else { "" };
+            write!(text, "{space}{}", list.get(i).copied().unwrap_or(0))?;
+        }
+        Ok(text)
+    }
+
     /// Returns what a call returned, `pending` if it did not.
     pub(crate) fn reply(&self, call: &Call) -> &'a [u8] {
-        if call.last < self.events.len() { self.event_text(call.last) } else { b"pending" }
+        if call.last < self.events.len() {
+            self.event_text(call.last)
+        } else {
+            b"pending"
+        }
     }
 
     /// Returns the point of a call, 0 if it has none.

@@ -1,8 +1,6 @@
-//! A scene in the format that is asked for. A page of HTML scrolls and zooms it without a server.
+//! A picture in the format that is asked for. A page of HTML scrolls and zooms it without a server.
 
-use crate::scene::Scene;
-use crate::svg::put_svg;
-use crate::text::put_text;
+use crate::sheet::Sheet;
 use evc_draw_cli::Form;
 use std::alloc::{AllocError, Global};
 
@@ -57,15 +55,15 @@ addEventListener('wheel', event => {
 </script>
 ";
 
-/// Returns a scene in this format.
-pub(crate) fn document(alloc: Global, form: Form, scene: &Scene) -> Result<String, AllocError> {
+/// Returns the picture on a sheet in this format.
+pub(crate) fn document(alloc: Global, form: Form, sheet: &Sheet) -> Result<String, AllocError> {
     let mut out = String::new(alloc);
     match form {
-        Form::Svg => put_svg(&mut out, alloc, scene)?,
-        Form::Text => put_text(&mut out, scene)?,
+        Form::Svg => sheet.put_svg(&mut out)?,
+        Form::Text => sheet.put_text(&mut out)?,
         Form::Html => {
             out.push_str(BEGINNING)?;
-            put_svg(&mut out, alloc, scene)?;
+            sheet.put_svg(&mut out)?;
             out.push_str(END)?;
         }
     }

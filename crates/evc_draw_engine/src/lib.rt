@@ -3,9 +3,9 @@
 
 mod calls;
 mod drawing;
-mod elements;
 mod evidence;
 mod fault;
+mod grid;
 mod histories;
 mod history;
 mod html;
@@ -14,12 +14,10 @@ mod note;
 mod objects;
 mod panel;
 mod plain;
+mod refuted;
 mod reports;
-mod scale;
-mod scene;
+mod sheet;
 mod style;
-mod svg;
-mod text;
 mod trace;
 mod unknown;
 mod view;

@@ -1,8 +1,6 @@
 //! Limits of how many items there are, were put in or were taken, which show a fault of a buffer.
-use calls_buffers::Flow;
-use calls_schedule::Bound;
+use calls_buffers::{Fault, Flow};
 use calls_turns::{Clash, Step};
-use calls_verdict::Fault;
 use std::alloc::{AllocError, Global};
 
 /// Where a limit holds.
@@ -21,89 +19,105 @@ pub(crate) enum Extent {
 pub(crate) struct Limit {
     pub(crate) at: usize,
     pub(crate) extent: Extent,
-    pub(crate) number: usize,
+    pub(crate) number: u64,
     pub(crate) words: String,
 }
 
-/// Returns what was done with items that went this way.
-fn moved(flow: Flow) -> &'static str {
-    match flow {
-        Flow::In => "put in",
-        Flow::Out => "taken",
-    }
-}
-
-/// Adds that at least so many items were moved from a position on.
-fn add_least(limits: &mut Vec<Limit>, alloc: Global, flow: Flow, at: usize, number: usize)
-    -> Result<(), AllocError>
-{
-    let words = format!(in alloc; "at least {number} {}", moved(flow))?;
-    Ok(limits.push(Limit { at, extent: Extent::From, number, words })?)
-}
-
-/// Adds that at most so many items were moved up to a position.
-fn add_most(limits: &mut Vec<Limit>, alloc: Global, flow: Flow, at: usize, number: usize)
-    -> Result<(), AllocError>
-{
-    let words = format!(in alloc; "at most {number} {}", moved(flow))?;
-    Ok(limits.push(Limit { at, extent: Extent::To, number, words })?)
-}
-
-/// Adds the limits by these bounds on how many items were taken.
-fn add_bounds(limits: &mut Vec<Limit>, alloc: Global, bounds: &[Bound]) -> Result<(), AllocError> {
-    for bound in bounds {
-        let (at, jobs, due) = (bound.at, bound.jobs, bound.due);
-        if jobs <= due {
-            add_most(limits, alloc, Flow::Out, at, due.saturating_sub(jobs))?;
-        } else {
-            let words = format!(in alloc; "of the first {due}, {jobs} not taken")?;
-            limits.push(Limit { at, extent: Extent::To, number: 0, words })?;
-        }
-    }
-    Ok(())
-}
-
-/// Adds the limits by these steps, and how many items at most can be moved.
-fn add_steps(
-    limits: &mut Vec<Limit>,
+/// The limits that show a fault.
+#[derive(Drop)]
+struct Limits {
     alloc: Global,
-    flow: Flow,
-    steps: &[Step],
-    clash: &Clash,
-) -> Result<(), AllocError> {
-    for step in steps {
-        add_least(limits, alloc, flow, step.at, step.count)?;
+    list: Vec<Limit>,
+}
+
+impl Limits {
+    /// Adds that at least or at most so many items were moved this way.
+    fn moved(&mut self, flow: Flow, extent: Extent, at: usize, n: usize) -> Result<(), AllocError> {
+        let bound = if extent == Extent::To {
+            "at most"
+        } else {
+            "at least"
+        };
+        let moved = match flow {
+            Flow::In => "put in",
+            Flow::Out => "taken",
+        };
+        let words = format!(in self.alloc; "{bound} {n} {moved}")?;
+        self.add(extent, at, n, words)
     }
-    let last = steps.last().map_or(0, |step| step.at);
-    match clash {
-        Clash::Closed(turn) => add_most(limits, alloc, flow, last, *turn),
-        Clash::Few { shortages, .. } => {
-            let most = shortages.first().map_or(0, |shortage| shortage.turn);
-            add_most(limits, alloc, flow, last, most)
+
+    /// Adds a limit.
+    fn add(
+        &mut self,
+        extent: Extent,
+        at: usize,
+        n: usize,
+        words: String,
+    ) -> Result<(), AllocError> {
+        let number = n as u64;
+        Ok(
+            self.list.push(Limit {
+                at,
+                extent,
+                number,
+                words,
+            })?,
+        )
+    }
+
+    /// Adds the limits by these steps, and how many items at most can be moved.
+    fn steps(&mut self, flow: Flow, steps: &[Step], clash: &Clash) -> Result<(), AllocError> {
+        for step in steps {
+            self.moved(flow, Extent::From, step.at, step.count)?;
         }
-        Clash::Full(crowd) => {
-            add_least(limits, alloc, flow, crowd.at, crowd.turn.saturating_add(1))?;
-            add_most(limits, alloc, flow, crowd.at, crowd.turn)
+        let last = steps.last().map_or(0, |step| step.at);
+        let (at, most) = match clash {
+            Clash::Closed(turn) => (last, *turn),
+            Clash::Few { shortages, .. } => (last, shortages.first().map_or(0, |it| it.turn)),
+            Clash::Full(crowd) => {
+                self.moved(flow, Extent::From, crowd.at, crowd.turn.saturating_add(1))?;
+                (crowd.at, crowd.turn)
+            }
+        };
+        self.moved(flow, Extent::To, at, most)
+    }
+
+    /// Adds the limits that show a fault.
+    fn fault(&mut self, fault: &Fault) -> Result<(), AllocError> {
+        match fault {
+            Fault::Crowded {
+                call,
+                left,
+                pending,
+            } => {
+                let n = left.saturating_sub(*pending);
+                let words = format!(in self.alloc; "at least {n} inside")?;
+                self.add(Extent::At, call.last, n, words)
+            }
+            Fault::Overdue { bounds } => {
+                for bound in bounds.as_slice() {
+                    let (at, jobs, due) = (bound.at, bound.jobs, bound.due);
+                    if jobs <= due {
+                        self.moved(Flow::Out, Extent::To, at, due.saturating_sub(jobs))?;
+                    } else {
+                        let words = format!(in self.alloc; "of the first {due}, {jobs} not taken")?;
+                        self.add(Extent::To, at, 0, words)?;
+                    }
+                }
+                Ok(())
+            }
+            Fault::Outrun { flow, steps, clash } => self.steps(*flow, steps.as_slice(), clash),
+            _ => Ok(()),
         }
     }
 }
 
-/// Returns the limits that show a fault.
+/// Returns the limits that show a fault of a buffer.
 pub(crate) fn limits_of(alloc: Global, fault: &Fault) -> Result<Vec<Limit>, AllocError> {
-    let mut limits = Vec::new(alloc);
-    match fault {
-        Fault::Items(calls_buffers::Fault::Crowded { call, left, pending }) => {
-            let number = left.saturating_sub(*pending);
-            let words = format!(in alloc; "at least {number} inside")?;
-            limits.push(Limit { at: call.last, extent: Extent::At, number, words })?;
-        }
-        Fault::Items(calls_buffers::Fault::Overdue { bounds }) => {
-            add_bounds(&mut limits, alloc, bounds)?;
-        }
-        Fault::Items(calls_buffers::Fault::Outrun { flow, steps, clash }) => {
-            add_steps(&mut limits, alloc, *flow, steps, clash)?;
-        }
-        _ => {}
-    }
-    Ok(limits)
+    let mut limits = Limits {
+        alloc,
+        list: Vec::new(alloc),
+    };
+    limits.fault(fault)?;
+    Ok(limits.list)
 }

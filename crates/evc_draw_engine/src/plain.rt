@@ -44,9 +44,4 @@ impl<'a> Words<'a> {
             rest: rest.unwrap_or(b""),
         }
     }
-
-    /// Returns whether it takes a unit of two semaphores, which are its object and the rest.
-    pub(crate) fn is_of_both(&self) -> bool {
-        self.verb == b"pboth".as_slice()
-    }
 }

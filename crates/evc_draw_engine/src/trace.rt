@@ -1,21 +1,21 @@
-//! The scene of a trace.
-use crate::note::{Note, note_lines, wrong_column};
+//! Draws the shapes of a trace.
+use crate::grid::{Grid, NEVER};
+use crate::note::{Note, note_lines, wrong_reply};
+use crate::panel::{Run, Scale, Shapes};
 use crate::plain::Plain;
-use crate::scene::{
-    Arrow, Bar, Cell, Dot, Grid, Mark, NEVER, Panel, PutResult, Ruler, Run, Scene, Shade, Shape,
-    TableRow, number_cell, sign_cell,
-};
+use crate::sheet::{Bar, PutResult, Sheet};
 use ec_core::{Act, Reply};
 use ec_count::{EventId, WorkerId};
-use ec_draw::{Counter, Curve, CurveSource, Picture, Selection};
+use ec_draw::{Counter, Curve, CurveSource, Dot, Picture, Selection};
 use ec_order::Placed;
 use ec_text::Output;
 use ec_trace::{DecimalCache, Spellings, put_act};
 use std::alloc::{AllocError, Global};
 
-/// The shapes of a picture of a trace, which of them are drawn, and their names.
+/// The shapes of a trace, which of them are drawn, and their names.
 #[derive(Clone, Copy)]
-pub(crate) struct Sheet<'a> {
+pub(crate) struct TraceShapes<'a> {
+    pub(crate) alloc: Global,
     pub(crate) names: &'a Spellings<'a>,
     pub(crate) chosen: &'a Selection,
     pub(crate) workers: usize,
@@ -24,10 +24,15 @@ pub(crate) struct Sheet<'a> {
     pub(crate) note: Option<Note<'a>>,
 }
 
-impl<'a> Sheet<'a> {
+impl<'a> TraceShapes<'a> {
     /// Returns the row of a worker.
     pub(crate) fn row(&self, worker: WorkerId) -> u64 {
         self.chosen.workers_before(worker.get()) as u64
+    }
+
+    /// Returns the name of a worker.
+    fn worker(&self, worker: WorkerId) -> Plain<'a> {
+        Plain(self.names.worker(worker))
     }
 
     /// Returns the name of the group of an eventcount: its own name up to the dot.
@@ -41,273 +46,295 @@ impl<'a> Sheet<'a> {
     pub(crate) fn curve(&self, object: &CurveSource) -> Plain<'a> {
         match *object {
             CurveSource::Count(Counter::Event(event)) => Plain(self.names.event(event)),
-            CurveSource::Count(Counter::Sequencer(s)) => Plain(self.names.sequencer(s)),
+            CurveSource::Count(Counter::Sequencer(id)) => Plain(self.names.sequencer(id)),
             CurveSource::Balance(event) => self.group(event),
         }
     }
 
-    /// Returns the name of a worker.
-    fn worker(&self, worker: WorkerId) -> Plain<'a> {
-        Plain(self.names.worker(worker))
-    }
-}
-
-/// Returns an act as a trace has it, as `await E 2`.
-fn act_text(alloc: Global, sheet: &Sheet<'_>, act: &Act) -> Result<String, AllocError> {
-    let mut bytes = Vec::new(alloc);
-    let mut out = Output::new(&mut bytes);
-    put_act(&mut out, sheet.names, &mut DecimalCache::new(), act);
-    let done = out.finish();
-    out.into_writer();
-    match done {
-        Ok(()) => format!(in alloc; "{}", Plain(bytes.get(1..).unwrap_or(b""))),
-        Err(_) => Err(AllocError),
-    }
-}
-
-/// Returns a reply as a trace has it.
-pub(crate) fn reply_text(alloc: Global, reply: Reply) -> Result<String, AllocError> {
-    match reply {
-        Reply::Done => String::from_str(alloc, "done"),
-        Reply::Pending => String::from_str(alloc, "pending"),
-        Reply::Number(n) => format!(in alloc; "{n}"),
-    }
-}
-
-/// Returns the bar of a completed call.
-fn bar_of(alloc: Global, sheet: &Sheet<'_>, placed: &Placed) -> Result<Bar, AllocError> {
-    let (call, point) = (&placed.call, placed.point);
-    let (worker, first, last) = (sheet.worker(call.worker), call.first, call.last);
-    let act = act_text(alloc, sheet, &call.op)?;
-    let reply = reply_text(alloc, call.reply)?;
-    let (asked, returned) = (act.as_str(), reply.as_str());
-    let title = format!(
-        in alloc;
-        "{worker} {asked} = {returned}, entries {first} to {last}, point {point}"
-    )?;
-    Ok(Bar {
-        row: sheet.row(call.worker),
-        first,
-        last,
-        act,
-        reply,
-        title,
-        frame: "",
-        round: if call.first < call.round { Some(call.round) } else { None },
-    })
-}
-
-/// Adds the bars of the completed calls, and then those of the pending ones.
-fn add_bars(alloc: Global, scene: &mut Scene, sheet: &Sheet<'_>) -> PutResult {
-    let (chosen, picture) = (sheet.chosen, sheet.picture);
-    for placed in picture.calls.iter().filter(|it| chosen.draws(it.call.worker, &it.call.op)) {
-        scene.bars.push(bar_of(alloc, sheet, placed)?)?;
-        add_mark(scene, sheet, placed)?;
-    }
-    for begun in picture.begun.iter().filter(|it| chosen.draws(it.worker, &it.op)) {
-        let (worker, first) = (sheet.worker(begun.worker), begun.first);
-        let act = act_text(alloc, sheet, &begun.op)?;
-        let asked = act.as_str();
-        let title = format!(
-            in alloc;
-            "{worker} {asked} = pending, under way from entry {first}"
-        )?;
-        scene.bars.push(Bar {
-            row: sheet.row(begun.worker),
-            first,
-            last: NEVER,
-            act,
-            reply: String::new(alloc),
-            title,
-            frame: "",
-            round: None,
-        })?;
-    }
-    Ok(())
-}
-
-/// Returns the panel of the total that a call returned, and that total.
-fn tie_of(sheet: &Sheet<'_>, placed: &Placed) -> Option<(usize, u64)> {
-    let (Act::Read(event) | Act::Await(event, _), Reply::Number(number)) =
-        (placed.call.op, placed.call.reply)
-    else {
-        return None;
-    };
-    let before = sheet.picture.curves.iter().take(event.get());
-    let panel = before.filter(|curve| sheet.chosen.draws_curve(&curve.object)).count();
-    Some((panel, number))
-}
-
-/// Adds the mark of a call at its linearization point, if that is shown.
-fn add_mark(scene: &mut Scene, sheet: &Sheet<'_>, placed: &Placed) -> PutResult {
-    let (grid, point) = (scene.grid, placed.point);
-    if point < grid.window.from || grid.window.to < point {
-        return Ok(());
-    }
-    let is_step = placed.call.first == placed.call.last;
-    Ok(scene.marks.push(Mark {
-        row: sheet.row(placed.call.worker),
-        x: if is_step { grid.centre(point) } else { grid.edge(point) },
-        tie: tie_of(sheet, placed),
-    })?)
-}
-
-/// Adds a dot for each entry: its label is the component that the entry read or raised, and the
-/// number that it read.
-fn add_dots(alloc: Global, scene: &mut Scene, sheet: &Sheet<'_>) -> PutResult {
-    let dots = sheet.picture.dots.iter();
-    for dot in dots.filter(|dot| sheet.chosen.draws(dot.worker, &dot.op)) {
-        let label = match (dot.component, dot.number) {
-            (Some(component), Some(number)) => format!(in alloc; "{component}={number}")?,
-            (Some(component), None) => format!(in alloc; "{component}")?,
-            (None, _) => String::new(alloc),
-        };
-        let (row, position) = (sheet.row(dot.worker), dot.position);
-        scene.dots.push(Dot { row, position, label })?;
-    }
-    Ok(())
-}
-
-/// Returns the cells of a worker's row: at each entry of the worker its component, or a star.
-fn cells_of(
-    alloc: Global,
-    scene: &Scene,
-    sheet: &Sheet<'_>,
-    worker: WorkerId,
-) -> Result<Vec<Cell>, AllocError> {
-    let mut cells = Vec::new(alloc);
-    cells.push(sign_cell("", false))?;
-    for dot in sheet.picture.dots.as_slice() {
-        let mut bars = scene.bars.iter();
-        let is_inside = bars.any(|bar| bar.is_in(sheet.row(worker), dot.position));
-        let is_own = dot.worker == worker && sheet.chosen.draws_object(&dot.op);
-        cells.push(match dot.component {
-            Some(component) if is_own => Cell { is_inside, ..number_cell(component as u64) },
-            _ => sign_cell(if is_own { "*" } else { "" }, is_inside),
-        })?;
-    }
-    Ok(cells)
-}
-
-/// Adds the rows of the workers that are drawn.
-fn add_rows(alloc: Global, scene: &mut Scene, sheet: &Sheet<'_>) -> PutResult {
-    for number in 0..sheet.workers {
-        if let Some(worker) = WorkerId::new(number).filter(|it| sheet.chosen.draws_worker(*it)) {
-            let name = format!(in alloc; "{}", sheet.worker(worker))?;
-            let cells = cells_of(alloc, scene, sheet, worker)?;
-            scene.rows.push(TableRow { name, cells })?;
+    /// Returns an act as a trace has it, as `await E 2`.
+    fn act(&self, act: &Act) -> Result<String, AllocError> {
+        let mut bytes = Vec::new(self.alloc);
+        let mut out = Output::new(&mut bytes);
+        put_act(&mut out, self.names, &mut DecimalCache::new(), act);
+        let done = out.finish();
+        out.into_writer();
+        match done {
+            Ok(()) => format!(in self.alloc; "{}", Plain(bytes.get(1..).unwrap_or(b""))),
+            Err(_) => Err(AllocError),
         }
     }
-    Ok(())
-}
 
-/// Adds the row of the entries. Its first cell, that of the moment before them, is empty. A faulty
-/// line without an entry has a sign.
-fn add_head(alloc: Global, scene: &mut Scene, sheet: &Sheet<'_>) -> PutResult {
-    let mut cells = Vec::new(alloc);
-    cells.push(sign_cell("", false))?;
-    let dots = sheet.picture.dots.as_slice();
-    for dot in dots {
-        cells.push(number_cell(dot.position as u64))?;
+    /// Returns a reply as a trace has it.
+    pub(crate) fn reply(&self, reply: Reply) -> Result<String, AllocError> {
+        match reply {
+            Reply::Done => String::from_str(self.alloc, "done"),
+            Reply::Pending => String::from_str(self.alloc, "pending"),
+            Reply::Number(n) => format!(in self.alloc; "{n}"),
+        }
     }
-    let window = sheet.picture.window;
-    if sheet.note.is_some_and(|note| window.shows(note.position)) && dots.len() < window.columns() {
-        cells.push(sign_cell("!", false))?;
-    }
-    let name = String::from_str(alloc, "entry")?;
-    Ok(scene.heads.push(TableRow { name, cells })?)
-}
 
-/// Returns the runs of a curve. It is at a moment's number up to the middle of the next entry's
-/// column.
-fn runs_of(alloc: Global, grid: &Grid, curve: &Curve) -> Result<Vec<Run>, AllocError> {
-    let mut runs = Vec::new(alloc);
-    let mut from = grid.edge(0);
-    for (i, number) in curve.heights.iter().enumerate() {
-        let to = grid.x(grid.window.from.saturating_add(i));
-        runs.push(Run::level(from, to, *number))?;
-        from = to;
-    }
-    Ok(runs)
-}
-
-/// Adds the panels of the curves that are drawn.
-fn add_panels(alloc: Global, scene: &mut Scene, sheet: &Sheet<'_>) -> PutResult {
-    let curves = sheet.picture.curves.iter();
-    for curve in curves.filter(|curve| sheet.chosen.draws_curve(&curve.object)) {
-        let name = format!(in alloc; "{}", sheet.curve(&curve.object))?;
-        let class = match curve.object {
-            CurveSource::Count(_) => "curve",
-            CurveSource::Balance(_) => "balance",
+    /// Puts the row of the entries. A faulty line without an entry has a sign.
+    fn put_head(&self, sheet: &mut Sheet) -> PutResult {
+        let (window, count) = (self.picture.window, self.picture.dots.len());
+        let is_faulty = self.note.is_some_and(|note| window.shows(note.position));
+        let sign = if is_faulty && count < window.columns() {
+            "!"
+        } else {
+            ""
         };
-        let runs = runs_of(alloc, &scene.grid, curve)?;
-        let cells = curve.heights.iter().map(|number| number_cell(*number)).collect(alloc)?;
-        scene.panels.push(Panel {
-            name: name.clone()?,
-            ruler: Ruler::Ends,
-            shapes: vec![in alloc; Shape::Curve(class, runs)]?,
-            rows: vec![in alloc; TableRow { name, cells }]?,
-        })?;
+        sheet.head("entry", 30, window.from as u64, count, sign)
     }
-    Ok(())
-}
 
-/// Adds the arrows of the deliveries that are drawn.
-fn add_arrows(alloc: Global, scene: &mut Scene, sheet: &Sheet<'_>) -> PutResult {
-    let window = scene.grid.window;
-    let end = |position| {
-        let is_shown = window.shows(position);
-        if is_shown { scene.grid.centre(position) } else { scene.grid.edge(position) }
-    };
-    let arrows = sheet.picture.arrows.iter();
-    for arrow in arrows.filter(|arrow| sheet.chosen.draws_arrow(arrow)) {
-        let it = &arrow.delivery;
-        let (group, number, item) = (sheet.group(arrow.count), it.number, it.item);
-        let (producer, consumer) = (sheet.worker(it.producer), sheet.worker(it.consumer));
-        let (put, got) = (arrow.put, arrow.got);
-        let title = format!(
-            in alloc;
-            "delivery {group} {number} {producer} {consumer} {item}, put at entry {put}, got at entry {got}"
+    /// Returns whether a drawn call of a worker extends through the moment before a position.
+    fn is_inside(&self, worker: WorkerId, position: usize) -> bool {
+        let mut calls = self.picture.calls.iter().map(|placed| &placed.call);
+        let mut begun = self.picture.begun.iter();
+        calls.any(|call| {
+            call.worker == worker
+                && call.first < position
+                && position <= call.last
+                && self.chosen.draws_object(&call.op)
+        }) || begun.any(|call| {
+            call.worker == worker && call.first < position && self.chosen.draws_object(&call.op)
+        })
+    }
+
+    /// Puts the cell of an entry in the row of a worker.
+    fn put_cell(&self, sheet: &mut Sheet, worker: WorkerId, dot: &Dot) -> PutResult {
+        let is_inside = self.is_inside(worker, dot.position);
+        if dot.worker != worker || !self.chosen.draws_object(&dot.op) {
+            return sheet.cell("", is_inside);
+        }
+        match dot.component {
+            Some(component) => sheet.number_cell(component as u64, is_inside),
+            None => sheet.cell("*", is_inside),
+        }
+    }
+
+    /// Puts the row of a worker.
+    fn put_row(&self, sheet: &mut Sheet, worker: WorkerId) -> PutResult {
+        sheet.row(self.worker(worker))?;
+        for dot in self.picture.dots.as_slice() {
+            self.put_cell(sheet, worker, dot)?;
+        }
+        sheet.end_row()
+    }
+
+    /// Puts the rows of the workers that are drawn.
+    fn put_rows(&self, sheet: &mut Sheet) -> PutResult {
+        for number in 0..self.workers {
+            if let Some(worker) = WorkerId::new(number) {
+                if self.chosen.draws_worker(worker) {
+                    self.put_row(sheet, worker)?;
+                }
+            }
+        }
+        sheet.columns()
+    }
+
+    /// Puts the panel of a curve. It is at a moment's number up to the middle of the next entry's
+    /// column.
+    fn put_curve(&self, sheet: &mut Sheet, curve: &Curve) -> Result<Scale, AllocError> {
+        let (mut shapes, mut runs) = (Shapes::new(self.alloc), Vec::new(self.alloc));
+        let grid = sheet.grid;
+        for (i, number) in curve.heights.iter().enumerate() {
+            let moment = grid.window.from.saturating_add(i);
+            runs.push(Run::level(grid.moment(moment), grid.x(moment), *number))?;
+        }
+        shapes.curve(curve_class(&curve.object), runs)?;
+        let name = self.curve(&curve.object);
+        sheet.numbers(name, curve.heights.iter().copied())?;
+        sheet.panel(name, 0, &shapes)
+    }
+
+    /// Puts the panels of the curves that are drawn. Returns where the numbers of each curve are,
+    /// also of those that are not.
+    fn put_curves(&self, sheet: &mut Sheet) -> Result<Vec<Option<Scale>>, AllocError> {
+        let mut scales = Vec::new(self.alloc);
+        for curve in self.picture.curves.as_slice() {
+            scales.push(match self.chosen.draws_curve(&curve.object) {
+                true => Some(self.put_curve(sheet, curve)?),
+                false => None,
+            })?;
+        }
+        Ok(scales)
+    }
+
+    /// Puts the arrows of the deliveries that are drawn. An arrow goes along the row of the consumer,
+    /// in one of three lanes, on the side of the producer.
+    fn put_arrows(&self, sheet: &mut Sheet) -> PutResult {
+        let arrows = self.picture.arrows.iter();
+        for arrow in arrows.filter(|arrow| self.chosen.draws_arrow(arrow)) {
+            let it = &arrow.delivery;
+            let (group, number, item) = (self.group(arrow.count), it.number, it.item);
+            let (producer, consumer) = (self.worker(it.producer), self.worker(it.consumer));
+            let (put, got) = (arrow.put, arrow.got);
+            let ends = format!(in self.alloc; "put at entry {put}, got at entry {got}")?;
+            let title = format!(in self.alloc;
+                "delivery {group} {number} {producer} {consumer} {item}, {}",
+                ends.as_str()
+            )?;
+            sheet.open("delivery", title.as_str())?;
+            sheet.arrow(
+                (self.row(it.producer), put),
+                (self.row(it.consumer), got),
+                number,
+            )?;
+            sheet.close()?;
+        }
+        Ok(())
+    }
+
+    /// Puts a shade over each accepted try that is drawn.
+    fn put_shades(&self, sheet: &mut Sheet) -> PutResult {
+        let shades = self.picture.shades.iter();
+        for shade in shades.filter(|shade| self.chosen.draws_shade(shade)) {
+            let (it, first, last) = (&shade.accepted, shade.span.first, shade.span.last);
+            let (group, worker) = (self.group(shade.count), self.worker(it.worker));
+            let mut title = format!(in self.alloc; "version {group} {} {worker}", it.version)?;
+            for value in it.values.as_slice() {
+                write!(title, " {value}")?;
+            }
+            write!(title, ", entries {first} to {last}")?;
+            sheet.open("version", title.as_str())?;
+            sheet.shade(self.row(it.worker), first, last)?;
+            sheet.close()?;
+        }
+        Ok(())
+    }
+
+    /// Puts the bar of a completed call.
+    fn put_call(&self, sheet: &mut Sheet, placed: &Placed) -> PutResult {
+        let (call, point) = (&placed.call, placed.point);
+        let (worker, first, last) = (self.worker(call.worker), call.first, call.last);
+        let (act, reply) = (self.act(&call.op)?, self.reply(call.reply)?);
+        let words = format!(in self.alloc; "{worker} {} = {}", act.as_str(), reply.as_str())?;
+        let title = format!(in self.alloc;
+            "{}, entries {first} to {last}, point {point}",
+            words.as_str()
         )?;
-        scene.arrows.push(Arrow {
-            from: (end(put), sheet.row(it.producer)),
-            to: (end(got), sheet.row(it.consumer)),
-            number,
-            title,
-        })?;
+        let bar = Bar {
+            row: self.row(call.worker),
+            first,
+            last,
+            act: act.as_bytes(),
+            reply: reply.as_bytes(),
+            frame: "",
+            round: call.round,
+        };
+        sheet.bar(&bar, title.as_str())
     }
-    Ok(())
+
+    /// Puts the bars of the calls that are drawn: the completed ones, and then the pending ones.
+    fn put_calls(&self, sheet: &mut Sheet) -> PutResult {
+        let calls = self.picture.calls.iter();
+        for placed in calls.filter(|it| self.chosen.draws(it.call.worker, &it.call.op)) {
+            self.put_call(sheet, placed)?;
+        }
+        let begun = self.picture.begun.iter();
+        for call in begun.filter(|it| self.chosen.draws(it.worker, &it.op)) {
+            let (worker, act) = (self.worker(call.worker), self.act(&call.op)?);
+            let title = format!(in self.alloc;
+                "{worker} {} = pending, under way from entry {}",
+                act.as_str(),
+                call.first
+            )?;
+            let bar = Bar {
+                row: self.row(call.worker),
+                first: call.first,
+                last: NEVER,
+                act: act.as_bytes(),
+                reply: b"pending",
+                frame: "",
+                round: 0,
+            };
+            sheet.bar(&bar, title.as_str())?;
+        }
+        Ok(())
+    }
+
+    /// Puts the dots of the entries. The label of a dot is the component that the entry read or
+    /// raised, and the number that it read.
+    fn put_dots(&self, sheet: &mut Sheet) -> PutResult {
+        let dots = self.picture.dots.iter();
+        for dot in dots.filter(|dot| self.chosen.draws(dot.worker, &dot.op)) {
+            let label = match (dot.component, dot.number) {
+                (Some(component), Some(n)) => format!(in self.alloc; "{component}={n}")?,
+                (Some(component), None) => format!(in self.alloc; "{component}")?,
+                (None, _) => String::new(self.alloc),
+            };
+            sheet.dot(self.row(dot.worker), dot.position, label.as_str())?;
+        }
+        Ok(())
+    }
+
+    /// Puts the mark of a call at its linearization point, if that is shown.
+    fn put_mark(&self, sheet: &mut Sheet, placed: &Placed, scales: &[Option<Scale>]) -> PutResult {
+        let (call, point, window) = (&placed.call, placed.point, self.picture.window);
+        if point < window.from || window.to < point {
+            return Ok(());
+        }
+        let is_step = call.first == call.last;
+        let x = if is_step {
+            sheet.grid.centre(point)
+        } else {
+            sheet.grid.edge(point)
+        };
+        let tie = match (call.op, call.reply) {
+            (Act::Read(event) | Act::Await(event, _), Reply::Number(n)) => {
+                let scale = scales.get(event.get()).copied().unwrap_or(None);
+                scale.map(|scale| scale.y(n))
+            }
+            _ => None,
+        };
+        sheet.mark(self.row(call.worker), x, tie)
+    }
+
+    /// Puts the note on the faulty line, and marks its column.
+    fn put_note(&self, sheet: &mut Sheet, note: &Note<'_>) -> PutResult {
+        sheet.wrong_column(note.position)?;
+        wrong_reply(self, note, sheet)?;
+        sheet.lines.push_str("\n")?;
+        for line in note_lines(self, note)?.as_slice() {
+            sheet.note("fault", line.as_str())?;
+        }
+        Ok(())
+    }
+
+    /// Returns whether the rows may have a number of more than three digits.
+    fn has_long(&self) -> bool {
+        let mut curves = self.picture.curves.iter();
+        let is_long = |curve: &Curve| curve.heights.iter().any(|n| 1000 <= *n);
+        1000 <= self.picture.window.to
+            || curves.any(|curve| self.chosen.draws_curve(&curve.object) && is_long(curve))
+    }
+
+    /// Returns the sheet with all that is drawn.
+    pub(crate) fn draw(&self) -> Result<Sheet, AllocError> {
+        let mut sheet = Sheet::new(self.alloc, Grid::of_entries(self.picture.window));
+        sheet.is_wide = self.has_long();
+        self.put_head(&mut sheet)?;
+        self.put_rows(&mut sheet)?;
+        let scales = self.put_curves(&mut sheet)?;
+        self.put_arrows(&mut sheet)?;
+        self.put_shades(&mut sheet)?;
+        self.put_calls(&mut sheet)?;
+        self.put_dots(&mut sheet)?;
+        let calls = self.picture.calls.iter();
+        for placed in calls.filter(|it| self.chosen.draws(it.call.worker, &it.call.op)) {
+            self.put_mark(&mut sheet, placed, scales.as_slice())?;
+        }
+        if let Some(note) = &self.note {
+            self.put_note(&mut sheet, note)?;
+        }
+        Ok(sheet)
+    }
 }
 
-/// Adds the shades of the accepted tries that are drawn.
-fn add_shades(alloc: Global, scene: &mut Scene, sheet: &Sheet<'_>) -> PutResult {
-    let shades = sheet.picture.shades.iter();
-    for shade in shades.filter(|shade| sheet.chosen.draws_shade(shade)) {
-        let (accepted, first, last) = (&shade.accepted, shade.span.first, shade.span.last);
-        let (group, worker) = (sheet.group(shade.count), sheet.worker(accepted.worker));
-        let mut title = format!(in alloc; "version {group} {} {worker}", accepted.version)?;
-        accepted.values.iter().try_for_each(|value| write!(title, " {value}"))?;
-        write!(title, ", entries {first} to {last}")?;
-        let row = sheet.row(accepted.worker);
-        scene.shades.push(Shade { row, first, last, title })?;
+/// Returns the style class of a curve.
+fn curve_class(object: &CurveSource) -> &'static str {
+    match *object {
+        CurveSource::Count(_) => "curve",
+        CurveSource::Balance(_) => "balance",
     }
-    Ok(())
-}
-
-/// Returns the scene of a trace.
-pub(crate) fn scene_of_trace(alloc: Global, sheet: &Sheet<'_>) -> Result<Scene, AllocError> {
-    let mut scene = Scene::new(alloc, Grid::of_entries(sheet.picture.window));
-    add_bars(alloc, &mut scene, sheet)?;
-    add_dots(alloc, &mut scene, sheet)?;
-    add_head(alloc, &mut scene, sheet)?;
-    add_rows(alloc, &mut scene, sheet)?;
-    add_panels(alloc, &mut scene, sheet)?;
-    add_arrows(alloc, &mut scene, sheet)?;
-    add_shades(alloc, &mut scene, sheet)?;
-    if let Some(note) = &sheet.note {
-        scene.note_class = "fault";
-        scene.wrong = Some(wrong_column(alloc, sheet, note)?);
-        scene.note = note_lines(alloc, sheet, note)?;
-    }
-    Ok(scene)
 }
