@@ -56,7 +56,7 @@ fn put_stair(lines: &mut String, stair: &Stair) -> PutResult {
 }
 
 impl History<'_> {
-    /// Returns whether all calls are of one object, which then needs no name. Semaphores need theirs.
+    /// Returns whether all calls are of one object, which then needs no name. Semaphores need one.
     fn has_one_object(&self) -> bool {
         let mut first = None;
         for i in 0..self.events.len() {
@@ -71,7 +71,7 @@ impl History<'_> {
         !matches!(kind, Some(Kind::Semaphores(_)))
     }
 
-    /// Returns the title of a call: its words, its events, and its linearization point if it has one.
+    /// Returns the title of a call: its words, its events, and its point if it has one.
     fn title(&self, call: &Call) -> Result<String, AllocError> {
         let (worker, act) = (self.worker(call.worker), Plain(self.act(call)));
         let (reply, first, last) = (Plain(self.reply(call)), call.first, call.last);

@@ -1,5 +1,6 @@
 //! Draws one history of a text of histories of calls.
-ghost use Rattle.std.specs.Prelude.{◌≡◌, ◌⊎◌, List, [], ℕ, codes, nat_eq, false, IfOk, IsTrue, IsSome};
+ghost use Rattle.std.specs.Prelude.{◌≡◌, ◌⊎◌, List, [], ℕ, codes, nat_eq, false};
+ghost use Rattle.std.specs.Prelude.{IfOk, IsTrue, IsSome};
 ghost use Rattle.std.specs.List.{starts_with};
 ghost use Rattle.ec_text.specs.Puts.{IsWrittenOut, Puts};
 ghost use Rattle.calls_report.specs.declared.status.Status.TheVariants.{Done};

@@ -102,42 +102,25 @@ fn calls_of(alloc: Global, events: &Part<'_>) -> Result<Vec<Call>, AllocError> {
     bars.completed.iter().copied().chain(pending).collect(alloc)
 }
 
-/// Returns the calls of a linearization, not yet with the x of their marks.
-fn placed_calls(alloc: Global, order: &Order) -> Result<Vec<PlacedMark>, AllocError> {
+/// Returns the calls of a linearization with their marks. Those of one point follow each other in
+/// the moment before its event, the first in the middle.
+fn marks_of(alloc: Global, grid: &Grid, order: &Order) -> Result<Vec<PlacedMark>, AllocError> {
     let mut marks = Vec::new(alloc);
+    let (mut last, mut rank) = (0usize, 1u64);
     for i in 0..order.len() {
-        let placed = order.at(i);
-        marks.push(PlacedMark {
-            call: placed.call,
-            point: placed.point,
-            x: 0,
-        })?;
+        let (call, point) = (order.at(i).call, order.at(i).point);
+        rank = if point == last {
+            rank.saturating_add(1)
+        } else {
+            1
+        };
+        last = point;
+        let from = grid.moment(point);
+        let room = grid.x(point).saturating_sub(from);
+        let x = from.saturating_add(room.saturating_mul(rank) / rank.saturating_add(1));
+        marks.push(PlacedMark { call, point, x })?;
     }
     Ok(marks)
-}
-
-/// Returns how many calls in a row from an index on have the same point.
-fn same_points(marks: &[PlacedMark], i: usize) -> usize {
-    let rest = marks.get(i..).unwrap_or(&[]);
-    let first = rest.first().map(|mark| mark.point);
-    let other = rest.iter().position(|mark| Some(mark.point) != first);
-    other.unwrap_or(rest.len())
-}
-
-/// Sets the x of the marks. Those of one point are spread evenly over the moment before its event.
-fn spread(grid: &Grid, marks: &mut [PlacedMark]) {
-    let (mut first, mut next) = (0usize, 0usize);
-    for i in 0..marks.len() {
-        if i >= next {
-            (first, next) = (i, i.saturating_add(same_points(marks, i)));
-        }
-        let mark = &mut marks[i];
-        let from = grid.moment(mark.point);
-        let room = grid.x(mark.point).saturating_sub(from);
-        let rank = i.saturating_sub(first).saturating_add(1) as u64;
-        let count = next.saturating_sub(first).saturating_add(1) as u64;
-        mark.x = from.saturating_add(room.saturating_mul(rank) / count.max(1));
-    }
 }
 
 /// Returns for each event the point of the call that it invokes, 0 if it has none.
@@ -191,11 +174,10 @@ impl<'a> History<'a> {
             Verdict::Linearizable(order) if order.len() > 0 => Some(order),
             _ => None,
         };
-        let mut marks = match order {
-            Some(order) => placed_calls(alloc, order)?,
+        let marks = match order {
+            Some(order) => marks_of(alloc, &grid, order)?,
             None => Vec::new(alloc),
         };
-        spread(&grid, &mut marks);
         let mut history = History {
             alloc,
             heading,

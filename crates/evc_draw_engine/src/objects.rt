@@ -70,6 +70,19 @@ pub(crate) fn implied_number(call: &Call) -> Option<u64> {
     }
 }
 
+/// Returns how many calls had returned and how many had been invoked at a position.
+fn tally_at(tallies: &[Tally], position: usize) -> (usize, usize) {
+    let tally = tallies.get(position);
+    tally.map_or((0, 0), |tally| (tally.returned, tally.called))
+}
+
+impl Move {
+    /// Returns whether a value is put there.
+    fn is_put(&self) -> bool {
+        matches!(self.mark.call.op, Op::Put(_))
+    }
+}
+
 impl Subject {
     /// Returns what is shown of the object at an index. A bank of semaphores has one for each.
     fn of(object: usize, index: usize, kind: &Kind) -> Subject {
@@ -140,14 +153,11 @@ impl Subject {
         };
         let (mut before, mut most) = (start_of(kinds, self.track), 0usize);
         let mut later = Vec::new(alloc);
-        let own = history
-            .marks
-            .iter()
-            .filter(|mark| mark.call.object == object);
+        let marks = history.marks.iter();
+        let own = marks.filter(|mark| mark.call.object == object);
         for (i, (mark, step)) in own.zip(steps.iter()).enumerate() {
-            let value = step
-                .value
-                .saturating_sub(taken.get(i).map_or(0, |step| step.value));
+            let fewer = taken.get(i).map_or(0, |step| step.value);
+            let value = step.value.saturating_sub(fewer);
             most = most.max(value);
             if mark.point < window.from {
                 before = value;
@@ -173,22 +183,11 @@ impl Subject {
             Some(lowering) => tallies_of(alloc, &history.events, lowering)?,
             None => Vec::new(alloc),
         };
-        let (start, none) = (
-            start_of(history.kinds, self.track),
-            Tally {
-                called: 0,
-                returned: 0,
-            },
-        );
+        let start = start_of(history.kinds, self.track);
         for position in grid.window.from..=grid.window.to {
-            let up = raised.get(position).copied().unwrap_or(none);
-            let down = lowered.get(position).copied().unwrap_or(none);
-            let least = start
-                .saturating_add(up.returned)
-                .saturating_sub(down.called);
-            let most = start
-                .saturating_add(up.called)
-                .saturating_sub(down.returned);
+            let (up, down) = (tally_at(&raised, position), tally_at(&lowered, position));
+            let least = start.saturating_add(up.0).saturating_sub(down.1);
+            let most = start.saturating_add(up.1).saturating_sub(down.0);
             bounds.push(Run {
                 from: grid.moment(position),
                 to: grid.x(position),
@@ -239,35 +238,28 @@ impl<'a> ObjectPanel<'a> {
         Ok(())
     }
 
-    /// Adds the values of a cell or a database along the linearization, a block from each put to the
-    /// next.
+    /// Adds the values of a cell or a database along the linearization, a block from each put to
+    /// the next.
     fn add_values(&mut self, moves: &Moves) -> PutResult {
         let (history, object) = (self.history, self.subject.track.object);
         let (mut from, mut value) = (LEFT, moves.before);
-        for put in moves
-            .later
-            .iter()
-            .filter(|it| matches!(it.mark.call.op, Op::Put(_)))
-        {
+        let later = moves.later.iter();
+        for put in later.filter(|it| it.is_put()) {
             let text = history.value_text(object, value)?;
             self.shapes.block("block", at(from, 0), put.mark.x, text)?;
             (from, value) = (put.mark.x, put.value);
         }
         let text = history.value_text(object, value)?;
-        self.shapes
-            .block("block", at(from, 0), history.grid.end(), text)
+        let end = history.grid.end();
+        self.shapes.block("block", at(from, 0), end, text)
     }
 
     /// Returns the items of a buffer, in the order in which they were put in.
     fn stored_items(&self) -> Result<Vec<StoredItem>, AllocError> {
         let mut items: Vec<StoredItem> = Vec::new(self.alloc);
         let (mut count, object) = (0usize, self.subject.track.object);
-        for mark in self
-            .history
-            .marks
-            .iter()
-            .filter(|mark| mark.call.object == object)
-        {
+        let marks = self.history.marks.iter();
+        for mark in marks.filter(|mark| mark.call.object == object) {
             match (mark.call.op, mark.call.reply) {
                 (Op::Produce(item), Reply::Done) => {
                     let (put, taken) = (*mark, None);
@@ -308,32 +300,21 @@ impl<'a> ObjectPanel<'a> {
     /// Adds a threshold from an x on, with its words.
     fn add_threshold(&mut self, x: u64, n: usize, words: String) -> PutResult {
         let number = n as u64;
-        self.shapes
-            .level("waits", x, self.history.grid.end(), number)?;
+        let end = self.history.grid.end();
+        self.shapes.level("waits", x, end, number)?;
         self.shapes.words("small", Side::Above, at(x.saturating_add(3), number), words)
     }
 
-    /// Adds the thresholds of the pending awaits that are not far above the bounds, and how many items
-    /// there is room for, if that is within the bounds.
+    /// Adds the thresholds of the pending awaits that are not far above the bounds, and how many
+    /// items there is room for, if that is within the bounds.
     fn add_thresholds(&mut self) -> PutResult {
         let (history, subject) = (self.history, self.subject);
-        let most = self
-            .bounds
-            .iter()
-            .map(|run| run.high as usize)
-            .max()
-            .unwrap_or(0);
-        let least = self
-            .bounds
-            .iter()
-            .map(|run| run.low as usize)
-            .min()
-            .unwrap_or(0);
-        for call in history
-            .calls
-            .iter()
-            .filter(|it| subject.shows(it) && it.last == NEVER)
-        {
+        let bounds = self.bounds.iter();
+        let most = bounds.map(|run| run.high as usize).max().unwrap_or(0);
+        let bounds = self.bounds.iter();
+        let least = bounds.map(|run| run.low as usize).min().unwrap_or(0);
+        let calls = history.calls.iter();
+        for call in calls.filter(|it| subject.shows(it) && it.last == NEVER) {
             if let Op::Await(n) = call.op {
                 if n <= most.saturating_add(40) {
                     let worker = history.worker(call.worker);
@@ -364,10 +345,8 @@ impl<'a> ObjectPanel<'a> {
     /// Adds its shapes: those of the evidence, or those along a linearization.
     fn add_shapes(&mut self) -> PutResult {
         let (history, subject) = (self.history, self.subject);
-        let evidence = history
-            .evidence
-            .as_ref()
-            .filter(|it| subject.is_shown_by(it));
+        let evidence = history.evidence.as_ref();
+        let evidence = evidence.filter(|it| subject.is_shown_by(it));
         let is_count = matches!(subject.raising, Some(CountFilter::Advances(_)));
         if matches!(subject.raising, Some(CountFilter::Tickets(_))) {
             self.add_levels()?;
@@ -396,11 +375,8 @@ impl<'a> ObjectPanel<'a> {
         let window = self.history.grid.window;
         if let Some(moves) = &self.moves {
             let number_at = |position: usize| {
-                let last = moves
-                    .later
-                    .iter()
-                    .rev()
-                    .find(|it| it.mark.point <= position);
+                let mut later = moves.later.iter().rev();
+                let last = later.find(|it| it.mark.point <= position);
                 last.map_or(moves.before, |it| it.value) as u64
             };
             sheet.numbers(Plain(b"count"), (window.from..=window.to).map(number_at))?;
@@ -414,17 +390,11 @@ impl<'a> ObjectPanel<'a> {
         let object = self.subject.track.object;
         let first = self.history.value_text(object, moves.before)?;
         write!(sheet.table, "{name} {} before\n", first.as_str())?;
-        for put in moves
-            .later
-            .iter()
-            .filter(|it| matches!(it.mark.call.op, Op::Put(_)))
-        {
+        let later = moves.later.iter();
+        for put in later.filter(|it| it.is_put()) {
             let (value, point) = (self.history.value_text(object, put.value)?, put.mark.point);
-            write!(
-                sheet.table,
-                "{name} {}, from point {point}\n",
-                value.as_str()
-            )?;
+            let value = value.as_str();
+            write!(sheet.table, "{name} {value}, from point {point}\n")?;
         }
         Ok(())
     }
@@ -443,7 +413,7 @@ impl<'a> ObjectPanel<'a> {
     }
 }
 
-/// Puts the panel of the object at an index, if some drawn call does something to it and it is chosen.
+/// Puts the panel of what a subject shows, if it is chosen and some drawn call is of it.
 fn put_panel(
     alloc: Global,
     sheet: &mut Sheet,

@@ -215,11 +215,7 @@ impl Sheet {
             }
             let (y, class) = (scale.y(n), if index == 0 { "zero" } else { "grid" });
             self.line(class, LEFT, y, self.grid.end(), y)?;
-            write!(
-                self.svg,
-                "<text class='count' x='{}' y='{y}'>{n}</text>\n",
-                LEFT - 12
-            )?;
+            self.text("count", LEFT - 12, y, n)?;
         }
         Ok(())
     }

@@ -2,8 +2,8 @@
 use ec_text::cut_word;
 use std::fmt;
 
-/// Bytes of a line. One that is not printable ASCII, or would need an escape, is shown as a question
-/// mark.
+/// Bytes of a line. One that is not printable ASCII, or would need an escape, is shown as a
+/// question mark.
 #[derive(Clone, Copy)]
 pub(crate) struct Plain<'a>(pub(crate) &'a [u8]);
 

@@ -1,6 +1,6 @@
 //! The evidence that a history is rejected, in the panel of its object.
 use crate::evidence::Evidence;
-use crate::grid::LEFT;
+use crate::grid::{LEFT, NEVER};
 use crate::limits::{Extent, Limit};
 use crate::objects::{ObjectPanel, implied_number};
 use crate::panel::{Run, Side, Spot, at};
@@ -43,52 +43,44 @@ fn value_of(call: &Call) -> usize {
     }
 }
 
-/// Returns the lane of a call: how many distinct values the calls before the first of its value have.
+/// Returns the lane of a call: how many values the calls before the first of its value have.
 fn lane_of(calls: &[Call], call: &Call) -> u64 {
-    let first = calls
-        .iter()
-        .position(|other| value_of(other) == value_of(call));
+    let (mut all, value) = (calls.iter(), value_of(call));
+    let first = all.position(|other| value_of(other) == value);
     let before = calls.get(..first.unwrap_or(0)).unwrap_or(&[]);
     let is_new = |i: usize, one: &Call| {
         let mut earlier = before.iter().take(i);
         earlier.all(|other| value_of(other) != value_of(one))
     };
-    before
-        .iter()
-        .enumerate()
-        .filter(|(i, one)| is_new(*i, one))
-        .count() as u64
+    let numbered = before.iter().enumerate();
+    numbered.filter(|(i, one)| is_new(*i, one)).count() as u64
 }
 
 impl ObjectPanel<'_> {
     /// Adds words at a number, to the right of an x.
     fn why(&mut self, side: Side, x: u64, n: u64, words: &str) -> PutResult {
         let text = String::from_str(self.alloc, words)?;
-        self.shapes
-            .words("why", side, at(x.saturating_add(4), n), text)
+        let spot = at(x.saturating_add(4), n);
+        self.shapes.words("why", side, spot, text)
     }
 
     /// Adds words at a number, to the left of an x.
     fn why_end(&mut self, side: Side, x: u64, n: u64, words: &str) -> PutResult {
         let text = String::from_str(self.alloc, words)?;
-        self.shapes
-            .words("why end", side, at(x.saturating_sub(5), n), text)
+        let spot = at(x.saturating_sub(5), n);
+        self.shapes.words("why end", side, spot, text)
     }
 
     /// Adds a stair, and the number at its end.
     fn add_stair(&mut self, stair: &Stair) -> PutResult {
         let (span, grid) = (&stair.span, self.history.grid);
-        let early = stair
-            .rises
-            .iter()
-            .filter(|rise| **rise < grid.window.from)
-            .count();
+        let rises = stair.rises.iter();
+        let early = rises.filter(|rise| **rise < grid.window.from).count();
         let mut number = span.base.saturating_add(early) as u64;
-        let mut from = if span.from == 0 {
-            LEFT
-        } else {
-            grid.x(span.from)
-        };
+        let mut from = grid.x(span.from);
+        if span.from == 0 {
+            from = LEFT;
+        }
         let mut runs = Vec::new(self.alloc);
         for rise in stair.rises.iter().skip(early) {
             let to = grid.x(*rise);
@@ -112,11 +104,12 @@ impl ObjectPanel<'_> {
             return self.why_end(Side::Below, x, n, words);
         }
         let is_moment = limit.extent == Extent::At;
-        let to = if is_moment {
-            grid.x(limit.at.saturating_add(1))
+        let after = if is_moment {
+            limit.at.saturating_add(1)
         } else {
-            grid.end()
+            NEVER
         };
+        let to = grid.x(after);
         self.shapes.level("stair", x, to, n)?;
         self.why(Side::Above, x, n, words)
     }
@@ -126,8 +119,8 @@ impl ObjectPanel<'_> {
         for (i, call) in calls.iter().enumerate() {
             if let Some(n) = implied_number(call) {
                 let to = self.history.grid.x(call.last);
-                self.shapes
-                    .level("said", self.history.grid.x(call.first), to, n)?;
+                let from = self.history.grid.x(call.first);
+                self.shapes.level("said", from, to, n)?;
                 let mut before = calls.iter().take(i);
                 if before.all(|other| implied_number(other) != Some(n)) {
                     let text = format!(in self.alloc; "{} {n}", implied_words(call))?;
@@ -143,8 +136,8 @@ impl ObjectPanel<'_> {
         match calls.first().and_then(|call| implied_number(call)) {
             Some(n) => {
                 let x = self.history.grid.x(stair.span.to);
-                self.shapes
-                    .line("tie", at(x, number_at_end(stair)), at(x, n))
+                let end = at(x, number_at_end(stair));
+                self.shapes.line("tie", end, at(x, n))
             }
             None => Ok(()),
         }
@@ -159,8 +152,8 @@ impl ObjectPanel<'_> {
         match (implied_number(one), implied_number(other)) {
             (Some(n), Some(m)) if n != m => {
                 let grid = self.history.grid;
-                self.shapes
-                    .line("tie", at(grid.x(one.last), n), at(grid.x(other.first), m))
+                let (from, to) = (grid.x(one.last), grid.x(other.first));
+                self.shapes.line("tie", at(from, n), at(to, m))
             }
             _ => Ok(()),
         }
@@ -188,15 +181,13 @@ impl ObjectPanel<'_> {
         if one.last >= other.first {
             return Ok(());
         }
-        let (from, to) = (
-            self.history.grid.x(one.last),
-            self.history.grid.x(other.first),
-        );
+        let grid = self.history.grid;
+        let (from, to) = (grid.x(one.last), grid.x(other.first));
         self.shapes.tie(at(from, lane_of(calls, one)), at(to, lane_of(calls, other)))
     }
 
-    /// Adds these calls as blocks, in one lane for each value, and a line between neighbouring calls
-    /// if one precedes the other. If they are paired, those of different pairs have none.
+    /// Adds these calls as blocks, in one lane for each value, and a line between neighbouring
+    /// calls if one precedes the other. If they are paired, those of different pairs have none.
     fn add_lanes(&mut self, calls: &[Call], is_paired: bool) -> PutResult {
         for (i, (one, other)) in calls.iter().zip(calls.iter().skip(1)).enumerate() {
             if !is_paired || i != 1 {
@@ -208,8 +199,8 @@ impl ObjectPanel<'_> {
         for call in calls {
             let spot: Spot = at(history.grid.x(call.first), lane_of(calls, call));
             let text = history.value_text(call.object, value_of(call))?;
-            self.shapes
-                .block("block hot", spot, history.grid.x(call.last), text)?;
+            let to = history.grid.x(call.last);
+            self.shapes.block("block hot", spot, to, text)?;
         }
         Ok(())
     }

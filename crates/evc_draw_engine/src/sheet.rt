@@ -3,12 +3,13 @@ use crate::grid::{Grid, LEFT, NEVER};
 use crate::plain::{Plain, Words};
 use crate::style::{OPENING, STYLE};
 use std::alloc::{AllocError, Global};
+use std::fmt::Display;
 
 /// The outcome of a function that puts something: an error if memory ran out.
 pub(crate) type PutResult = Result<(), AllocError>;
 
-/// A sheet. First come the numbers of the columns and the rows, then the panels, and then what is in
-/// the rows.
+/// A sheet. First come the numbers of the columns and the rows, then the panels, and last what is
+/// in the rows.
 #[derive(Drop)]
 pub(crate) struct Sheet {
     alloc: Global,
@@ -19,7 +20,9 @@ pub(crate) struct Sheet {
     pub(crate) is_wide: bool,
     pub(crate) svg: String,
     pub(crate) table: String,
-    /// The titles of the calls and further lines of the text.
+    /// The titles of the calls, those of what audits find, and further lines of the text.
+    calls: String,
+    findings: String,
     pub(crate) lines: String,
     rows: u64,
     /// The y at which the next panel begins.
@@ -68,6 +71,8 @@ impl Sheet {
             is_wide: false,
             svg: String::new(alloc),
             table: String::new(alloc),
+            calls: String::new(alloc),
+            findings: String::new(alloc),
             lines: String::new(alloc),
             rows: 0,
             y: 0,
@@ -77,32 +82,31 @@ impl Sheet {
 
     /// Puts a line.
     pub(crate) fn line(&mut self, class: &str, x1: u64, y1: u64, x2: u64, y2: u64) -> PutResult {
-        write!(
-            self.svg,
-            "<line class='{class}' x1='{x1}' y1='{y1}' x2='{x2}' y2='{y2}'/>\n"
-        )
+        write!(self.svg, "<line class='{class}' x1='{x1}' y1='{y1}'")?;
+        write!(self.svg, " x2='{x2}' y2='{y2}'/>\n")
     }
 
     /// Puts a rectangle up to the x of its right edge.
     pub(crate) fn rect(&mut self, class: &str, x: u64, y: u64, to: u64, height: u64) -> PutResult {
         let width = to.saturating_sub(x);
-        write!(
-            self.svg,
-            "<rect class='{class}' rx='6' x='{x}' y='{y}' width='{width}'"
-        )?;
-        write!(self.svg, " height='{height}'/>\n")
+        write!(self.svg, "<rect class='{class}' rx='6' x='{x}' y='{y}'")?;
+        write!(self.svg, " width='{width}' height='{height}'/>\n")
     }
 
-    /// Puts a text.
-    pub(crate) fn text(&mut self, class: &str, x: u64, y: u64, text: &str) -> PutResult {
-        write!(
-            self.svg,
-            "<text class='{class}' x='{x}' y='{y}'>{text}</text>\n"
-        )
+    /// Puts a text, a name or a number.
+    pub(crate) fn text(
+        &mut self,
+        class: &str,
+        x: u64,
+        y: u64,
+        text: impl Display + Drop,
+    ) -> PutResult {
+        write!(self.svg, "<text class='{class}' x='{x}' y='{y}'>")?;
+        write!(self.svg, "{text}</text>\n")
     }
 
-    /// Puts a text in letters that fit into this room. If the smallest don't, it is cut, and ends in
-    /// `~`.
+    /// Puts a text in letters that fit into this room. If the smallest don't, it is cut and ends
+    /// in `~`.
     fn squeezed(&mut self, class: &str, x: u64, y: u64, text: &[u8], room: u64) -> PutResult {
         let letters = text.len() as u64;
         let small = if letters.saturating_mul(6) <= room {
@@ -122,15 +126,12 @@ impl Sheet {
 
     /// Puts the name to the left of a row or a panel.
     pub(crate) fn name(&mut self, y: u64, name: Plain<'_>) -> PutResult {
-        let class = if name.0.len() > 17 {
-            "name long"
-        } else {
-            "name"
-        };
-        write!(
-            self.svg,
-            "<text class='{class}' x='{}' y='{y}'>{name}</text>\n",
-            LEFT - 12
+        let is_long = name.0.len() > 17;
+        self.text(
+            if is_long { "name long" } else { "name" },
+            LEFT - 12,
+            y,
+            name,
         )
     }
 
@@ -177,8 +178,8 @@ impl Sheet {
         self.end_row()
     }
 
-    /// Puts the numbers of the columns, `count` of them from this one on. The first cell of the row,
-    /// that of the moment before the columns, is empty; the last one may have a sign.
+    /// Puts the numbers of the columns, `count` of them from this one on. The first cell, that of
+    /// the moment before the columns, is empty; the last one may have a sign.
     pub(crate) fn head(
         &mut self,
         name: &'static str,
@@ -190,15 +191,11 @@ impl Sheet {
         self.text("head", LEFT - 12, y, name)?;
         self.row_name(Plain(name.as_bytes()))?;
         self.cell("", false)?;
+        let grid = self.grid;
         for column in 0..count {
-            let x = self
-                .grid
-                .centre(self.grid.window.from.saturating_add(column));
+            let x = grid.centre(grid.window.from.saturating_add(column));
             let number = first.saturating_add(column as u64);
-            write!(
-                self.svg,
-                "<text class='{name}' x='{x}' y='{y}'>{number}</text>\n"
-            )?;
+            self.text(name, x, y, number)?;
             self.number_cell(number, false)?;
         }
         if !sign.is_empty() {
@@ -233,10 +230,13 @@ impl Sheet {
         Ok(())
     }
 
-    /// Begins a group of shapes with a title, which is also a line of the text.
+    /// Begins a group of shapes with a title, which is also a line of the text: calls come first.
     pub(crate) fn open(&mut self, class: &str, title: &str) -> PutResult {
         write!(self.svg, "<g class='{class}'><title>{title}</title>\n")?;
-        write!(self.lines, "{title}\n")
+        match class {
+            "call" => write!(self.calls, "{title}\n"),
+            _ => write!(self.findings, "{title}\n"),
+        }
     }
 
     /// Ends a group of shapes.
@@ -260,10 +260,9 @@ impl Sheet {
             let left = room.saturating_sub(used).max(12);
             self.squeezed("act", x.saturating_add(used), y, rest, left)?;
         }
-        if self.is_single {
-            Ok(())
-        } else {
-            self.squeezed("object", x, low, object, room)
+        match self.is_single {
+            true => Ok(()),
+            false => self.squeezed("object", x, low, object, room),
         }
     }
 
@@ -288,24 +287,18 @@ impl Sheet {
     /// Puts a call: its bar with a title, the frame around it, and its texts.
     pub(crate) fn bar(&mut self, bar: &Bar<'_>, title: &str) -> PutResult {
         let (x, right) = (self.grid.begin(bar.first), self.grid.finish(bar.last));
-        let (y, width) = (row_y(bar.row, 32), right.saturating_sub(x));
-        let room = self
-            .grid
-            .begin(bar.last.saturating_add(1))
-            .saturating_sub(x);
+        let y = row_y(bar.row, 32);
+        let next = self.grid.begin(bar.last.saturating_add(1));
         let open = if bar.last == NEVER { " open" } else { "" };
         self.open("call", title)?;
         let verb = Plain(Words::of(bar.act).verb);
-        write!(
-            self.svg,
-            "<rect class='bar {verb}{open}' rx='6' x='{x}' y='{y}'"
-        )?;
-        write!(self.svg, " width='{width}' height='22'/>\n")?;
+        let class = format!(in self.alloc; "bar {verb}{open}")?;
+        self.rect(class.as_str(), x, y, right, 22)?;
         if !bar.frame.is_empty() {
             let to = right.saturating_add(3);
             self.rect(bar.frame, x.saturating_sub(3), y.saturating_sub(3), to, 28)?;
         }
-        self.labels(bar, x, room)?;
+        self.labels(bar, x, next.saturating_sub(x))?;
         self.reply_and_round(bar, x, right)?;
         self.close()
     }
@@ -326,16 +319,10 @@ impl Sheet {
     ) -> PutResult {
         let (from, to) = (self.grid.point_x(put), self.grid.point_x(got));
         let (y1, y2) = (facing(start, end), facing(end, start));
-        let side = row_top(if start < end {
-            end
-        } else {
-            end.saturating_add(1)
-        });
+        let side = row_y(end, if start < end { 0 } else { 76 });
         let along = side.saturating_add(number % 3 * 4).saturating_sub(4);
-        write!(
-            self.svg,
-            "<path class='arrow' d='M {from} {y1} V {along} H {to} V {y2}'/>\n"
-        )
+        write!(self.svg, "<path class='arrow' d='M {from} {y1} V {along}")?;
+        write!(self.svg, " H {to} V {y2}'/>\n")
     }
 
     /// Puts the dot of a step, and its label.
@@ -355,9 +342,10 @@ impl Sheet {
         if let Some(to) = tie {
             self.line("tie", x, y, x, to)?;
         }
-        write!(
-            self.svg,
-            "<path class='mark' d='M {x} {y} m 0 -6 l 6 6 l -6 6 l -6 -6 z'/>\n"
+        write!(self.svg, "<path class='mark' d='M {x} {y}")?;
+        self.svg.push_str(
+            " m 0 -6 l 6 6 l -6 6 l -6 -6 z'/>
+",
         )
     }
 
@@ -401,6 +389,7 @@ impl Sheet {
 
     /// Puts the rows, the calls and the notes as a text.
     pub(crate) fn put_text(&self, out: &mut String) -> PutResult {
-        write!(out, "{}\n{}", self.table.as_str(), self.lines.as_str())
+        write!(out, "{}\n{}", self.table.as_str(), self.calls.as_str())?;
+        write!(out, "{}{}", self.findings.as_str(), self.lines.as_str())
     }
 }

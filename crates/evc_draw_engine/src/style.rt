@@ -8,30 +8,20 @@ pub(crate) const OPENING: &str = "<svg xmlns='http://www.w3.org/2000/svg'";
 /// arrow may cross have an outline.
 pub(crate) const STYLE: &str = "<style>
 text { font-family: 'DejaVu Sans Mono', monospace; font-size: 10px; fill: #1f2933; }
-.paper { fill: #ffffff; }
-.name { font-size: 12px; font-weight: bold; text-anchor: end; }
+.paper { fill: #ffffff; } .name { font-size: 12px; font-weight: bold; text-anchor: end; }
 .count, .head { font-size: 9px; text-anchor: end; fill: #52606d; }
-.entry, .event, .line { text-anchor: middle; }
-.line, .small { font-size: 9px; fill: #52606d; }
+.entry, .event, .line { text-anchor: middle; } .line, .small { font-size: 9px; fill: #52606d; }
 .act, .object, .reply { stroke: #ffffff; stroke-width: 2.4; paint-order: stroke; }
-.reply { text-anchor: end; font-weight: bold; }
-.component { font-size: 9px; }
-.middle { text-anchor: middle; font-weight: bold; }
-.end { text-anchor: end; }
-.long { font-size: 8px; }
-.tiny { font-size: 5.5px; }
-.grid { stroke: #d5dae0; }
-.zero { stroke: #7b8794; }
-.bar { fill-opacity: 0.35; stroke-width: 1.5; }
-.open { stroke-dasharray: 5 3; }
-.advance { fill: #009e73; stroke: #009e73; }
-.read { fill: #0072b2; stroke: #0072b2; }
-.await { fill: #cc79a7; stroke: #cc79a7; }
+.reply { text-anchor: end; font-weight: bold; } .component { font-size: 9px; }
+.middle { text-anchor: middle; font-weight: bold; } .end { text-anchor: end; }
+.long { font-size: 8px; } .tiny { font-size: 5.5px; } .grid { stroke: #d5dae0; }
+.zero { stroke: #7b8794; } .bar { fill-opacity: 0.35; stroke-width: 1.5; }
+.open { stroke-dasharray: 5 3; } .advance { fill: #009e73; stroke: #009e73; }
+.read { fill: #0072b2; stroke: #0072b2; } .await { fill: #cc79a7; stroke: #cc79a7; }
 .ticket { fill: #e69f00; stroke: #e69f00; }
 .put, .produce, .v { fill: #d55e00; stroke: #d55e00; }
 .get, .consume, .p, .pboth { fill: #56b4e9; stroke: #56b4e9; }
-.hand { fill: #f0e442; stroke: #f0e442; }
-.dot, .tip { fill: #1f2933; }
+.hand { fill: #f0e442; stroke: #f0e442; } .dot, .tip { fill: #1f2933; }
 .round { stroke: #1f2933; stroke-dasharray: 2 2; }
 .tie { stroke: #1f2933; stroke-dasharray: 1 3; stroke-width: 1.4; }
 .mark { fill: #ffffff; stroke: #1f2933; stroke-width: 2; }
@@ -52,17 +42,12 @@ text { font-family: 'DejaVu Sans Mono', monospace; font-size: 10px; fill: #1f293
 .wrong { fill: #c1121f; fill-opacity: 0.2; }
 .why { font-size: 11px; font-weight: bold; fill: #c1121f; }
 .fault { font-size: 12px; fill: #c1121f; }
-.struck { fill: #c1121f; text-decoration: line-through; }
-.remark { font-size: 12px; }
+.struck { fill: #c1121f; text-decoration: line-through; } .remark { font-size: 12px; }
 @media (prefers-color-scheme: dark) {
-text, .dot, .tip { fill: #e4e7eb; }
-.count, .head, .line, .small { fill: #9aa5b1; }
-.paper, .mark, .seen { fill: #14191f; }
-.act, .object, .reply { stroke: #14191f; }
-.grid { stroke: #323f4b; }
-.round, .tie, .mark, .seen, .arrow, .warm { stroke: #e4e7eb; }
-.hot, .stair, .said { stroke: #ff8a80; }
-.wrong, .why, .fault, .struck { fill: #ff8a80; }
+text, .dot, .tip { fill: #e4e7eb; } .count, .head, .line, .small { fill: #9aa5b1; }
+.paper, .mark, .seen { fill: #14191f; } .act, .object, .reply { stroke: #14191f; }
+.grid { stroke: #323f4b; } .round, .tie, .mark, .seen, .arrow, .warm { stroke: #e4e7eb; }
+.hot, .stair, .said { stroke: #ff8a80; } .wrong, .why, .fault, .struck { fill: #ff8a80; }
 }
 </style>
 <marker id='tip' markerUnits='userSpaceOnUse' markerWidth='10' markerHeight='10' refX='9' refY='4' \

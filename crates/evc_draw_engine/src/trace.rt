@@ -160,8 +160,8 @@ impl<'a> TraceShapes<'a> {
         Ok(scales)
     }
 
-    /// Puts the arrows of the deliveries that are drawn. An arrow goes along the row of the consumer,
-    /// in one of three lanes, on the side of the producer.
+    /// Puts the arrows of the deliveries that are drawn. An arrow goes along the consumer's row, in
+    /// one of three lanes, on the side of the producer.
     fn put_arrows(&self, sheet: &mut Sheet) -> PutResult {
         let arrows = self.picture.arrows.iter();
         for arrow in arrows.filter(|arrow| self.chosen.draws_arrow(arrow)) {

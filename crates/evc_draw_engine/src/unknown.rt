@@ -102,8 +102,8 @@ pub(crate) fn report_unknown<N: Write>(
     notes.flush();
 }
 
-/// Returns the first of these names that a history does not declare for this kind. It may be that of
-/// a cell.
+/// Returns the first of these names that a history does not declare for this kind. The name of a
+/// cell is that of an object.
 fn first_unknown<'a>(kind: NameKind, heading: &Heading, names: &[&'a str]) -> Option<&'a str>
     ensures { IsSome result → 0 < length names.now }
 {
@@ -116,8 +116,8 @@ fn first_unknown<'a>(kind: NameKind, heading: &Heading, names: &[&'a str]) -> Op
     None
 }
 
-/// Writes a note on the first chosen name that a history does not declare, and returns whether there
-/// is one.
+/// Writes a note on the first chosen name that a history does not declare, and returns whether
+/// there is one.
 pub(crate) fn report_undeclared<N: Write>(
     heading: &Heading,
     choice: &NameFilter<'_>,
