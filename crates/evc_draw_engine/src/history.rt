@@ -117,7 +117,7 @@ fn marks_of(alloc: Global, grid: &Grid, order: &Order) -> Result<Vec<PlacedMark>
         last = point;
         let from = grid.moment(point);
         let room = grid.x(point).saturating_sub(from);
-        let x = from.saturating_add(room.saturating_mul(rank) / rank.saturating_add(1));
+        let x = from.saturating_add(room.saturating_mul(rank) / rank.saturating_add(1).max(1));
         marks.push(PlacedMark { call, point, x })?;
     }
     Ok(marks)

@@ -4,7 +4,7 @@ use crate::sheet::{PutResult, Sheet};
 use crate::trace::TraceShapes;
 use ec_core::Act;
 use ec_count::{EventId, WorkerId};
-use ec_draw::{Curve, Dot};
+use ec_draw::{Curve, Dot, Window};
 use ec_trace::TraceFault;
 use std::alloc::AllocError;
 
@@ -57,6 +57,12 @@ fn fault_words(shapes: &TraceShapes<'_>, fault: &TraceFault) -> Result<String, A
     }
 }
 
+/// Returns the count at a moment that is shown.
+fn height_at(window: Window, curve: &Curve, moment: usize) -> u64 {
+    let column = moment.saturating_sub(window.from);
+    curve.heights.get(column).copied().unwrap_or(0)
+}
+
 /// Returns the words on the total of a round's eventcount: when the round began, and at the faulty
 /// entry.
 fn total_words(
@@ -65,16 +71,14 @@ fn total_words(
     round: &Round,
     curve: &Curve,
 ) -> Result<String, AllocError> {
-    let (name, from) = (shapes.curve(&curve.object), shapes.picture.window.from);
-    let total_at = |moment: usize| {
-        let total = curve.heights.get(moment.saturating_sub(from));
-        total.copied().unwrap_or(0)
-    };
+    let (name, window) = (shapes.curve(&curve.object), shapes.picture.window);
     let mut words = format!(in shapes.alloc; "total of {name}: ")?;
     if let Some(begun) = round.begun {
-        write!(words, "{} when the round began, ", total_at(begun))?;
+        let first = height_at(window, curve, begun);
+        write!(words, "{first} when the round began, ")?;
     }
-    write!(words, "{} at this entry", total_at(note.position))?;
+    let last = height_at(window, curve, note.position);
+    write!(words, "{last} at this entry")?;
     Ok(words)
 }
 

@@ -83,6 +83,15 @@ impl Move {
     }
 }
 
+impl Moves {
+    /// Returns the number immediately before the event at a position.
+    fn number_at(&self, position: usize) -> usize {
+        let mut later = self.later.iter().rev();
+        let last = later.find(|it| it.mark.point <= position);
+        last.map_or(self.before, |it| it.value)
+    }
+}
+
 impl Subject {
     /// Returns what is shown of the object at an index. A bank of semaphores has one for each.
     fn of(object: usize, index: usize, kind: &Kind) -> Subject {
@@ -374,15 +383,16 @@ impl<'a> ObjectPanel<'a> {
     fn put_number_rows(&self, sheet: &mut Sheet) -> PutResult {
         let window = self.history.grid.window;
         if let Some(moves) = &self.moves {
-            let number_at = |position: usize| {
-                let mut later = moves.later.iter().rev();
-                let last = later.find(|it| it.mark.point <= position);
-                last.map_or(moves.before, |it| it.value) as u64
-            };
-            sheet.numbers(Plain(b"count"), (window.from..=window.to).map(number_at))?;
+            let mut counts = Vec::new(self.alloc);
+            for position in window.from..=window.to {
+                counts.push(moves.number_at(position) as u64)?;
+            }
+            sheet.numbers(Plain(b"count"), counts.as_slice())?;
         }
-        sheet.numbers(Plain(b"least"), self.bounds.iter().map(|run| run.low))?;
-        sheet.numbers(Plain(b"most"), self.bounds.iter().map(|run| run.high))
+        let least: Vec<u64> = self.bounds.iter().map(|run| run.low).collect(self.alloc)?;
+        let most: Vec<u64> = self.bounds.iter().map(|run| run.high).collect(self.alloc)?;
+        sheet.numbers(Plain(b"least"), least.as_slice())?;
+        sheet.numbers(Plain(b"most"), most.as_slice())
     }
 
     /// Puts the rows of values: the first, and each later one with the point from which on it is.

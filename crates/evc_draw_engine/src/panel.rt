@@ -2,7 +2,7 @@
 use crate::grid::LEFT;
 use crate::plain::Plain;
 use crate::sheet::{PutResult, Sheet};
-use std::alloc::Global;
+use std::alloc::{AllocError, Global};
 
 /// The height of a block and the gap below it.
 const BLOCK: u64 = 22;
@@ -302,7 +302,7 @@ impl Sheet {
         name: Plain<'_>,
         unit: u64,
         shapes: &Shapes,
-    ) -> Result<Scale, std::alloc::AllocError> {
+    ) -> Result<Scale, AllocError> {
         let scale = shapes.scale(self.y, unit);
         if shapes.range.is_none() {
             self.name(scale.top.saturating_add(13), name)?;

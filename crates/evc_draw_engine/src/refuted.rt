@@ -43,17 +43,24 @@ fn value_of(call: &Call) -> usize {
     }
 }
 
+/// Returns whether no call before the one at an index has its value.
+fn is_new(calls: &[Call], i: usize, call: &Call) -> bool {
+    let mut before = calls.iter().take(i);
+    before.all(|other| value_of(other) != value_of(call))
+}
+
 /// Returns the lane of a call: how many values the calls before the first of its value have.
 fn lane_of(calls: &[Call], call: &Call) -> u64 {
-    let (mut all, value) = (calls.iter(), value_of(call));
-    let first = all.position(|other| value_of(other) == value);
-    let before = calls.get(..first.unwrap_or(0)).unwrap_or(&[]);
-    let is_new = |i: usize, one: &Call| {
-        let mut earlier = before.iter().take(i);
-        earlier.all(|other| value_of(other) != value_of(one))
-    };
-    let numbered = before.iter().enumerate();
-    numbered.filter(|(i, one)| is_new(*i, one)).count() as u64
+    let (mut lane, value) = (0u64, value_of(call));
+    for (i, other) in calls.iter().enumerate() {
+        if value_of(other) == value {
+            return lane;
+        }
+        if is_new(calls, i, other) {
+            lane = lane.saturating_add(1);
+        }
+    }
+    lane
 }
 
 impl ObjectPanel<'_> {

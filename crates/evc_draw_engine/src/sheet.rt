@@ -166,14 +166,10 @@ impl Sheet {
     }
 
     /// Puts a row of the text with a number in each cell.
-    pub(crate) fn numbers(
-        &mut self,
-        name: Plain<'_>,
-        numbers: impl Iterator<Item = u64>,
-    ) -> PutResult {
+    pub(crate) fn numbers(&mut self, name: Plain<'_>, numbers: &[u64]) -> PutResult {
         self.row_name(name)?;
         for number in numbers {
-            self.number_cell(number, false)?;
+            self.number_cell(*number, false)?;
         }
         self.end_row()
     }

@@ -143,7 +143,7 @@ impl<'a> TraceShapes<'a> {
         }
         shapes.curve(curve_class(&curve.object), runs)?;
         let name = self.curve(&curve.object);
-        sheet.numbers(name, curve.heights.iter().copied())?;
+        sheet.numbers(name, curve.heights.as_slice())?;
         sheet.panel(name, 0, &shapes)
     }
 
@@ -304,7 +304,6 @@ impl<'a> TraceShapes<'a> {
     /// Returns whether the rows may have a number of more than three digits.
     fn has_long(&self) -> bool {
         let mut curves = self.picture.curves.iter();
-        let is_long = |curve: &Curve| curve.heights.iter().any(|n| 1000 <= *n);
         1000 <= self.picture.window.to
             || curves.any(|curve| self.chosen.draws_curve(&curve.object) && is_long(curve))
     }
@@ -329,6 +328,11 @@ impl<'a> TraceShapes<'a> {
         }
         Ok(sheet)
     }
+}
+
+/// Returns whether a curve has a number of more than three digits.
+fn is_long(curve: &Curve) -> bool {
+    curve.heights.iter().any(|n| 1000 <= *n)
 }
 
 /// Returns the style class of a curve.
