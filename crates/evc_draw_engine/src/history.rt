@@ -59,6 +59,20 @@ pub(crate) fn refusal_of(verdict: &Verdict) -> Option<&Refusal> {
     }
 }
 
+/// Returns the linearization of a verdict, if it has one with a call.
+fn order_of(verdict: &Verdict) -> Option<&Order> {
+    match verdict {
+        Verdict::Linearizable(order) if order.len() > 0 => Some(order),
+        _ => None,
+    }
+}
+
+/// Returns the number of the line of the event at position 0.
+fn first_line_of(found: &LastHistory<'_>) -> u64 {
+    let events = found.read.recording.events().len() as u64;
+    found.read.number.saturating_sub(1).saturating_sub(events)
+}
+
 /// Returns the events that are drawn: all of them, or those up to the first faulty one.
 pub(crate) fn drawn_events<'a>(found: &'a LastHistory<'_>) -> Part<'a> {
     let all = found.read.recording.events();
@@ -104,8 +118,15 @@ fn calls_of(alloc: Global, events: &Part<'_>) -> Result<Vec<Call>, AllocError> {
 
 /// Returns the calls of a linearization with their marks. Those of one point follow each other in
 /// the moment before its event, the first in the middle.
-fn marks_of(alloc: Global, grid: &Grid, order: &Order) -> Result<Vec<PlacedMark>, AllocError> {
+fn marks_of(
+    alloc: Global,
+    grid: &Grid,
+    order: Option<&Order>,
+) -> Result<Vec<PlacedMark>, AllocError> {
     let mut marks = Vec::new(alloc);
+    let Some(order) = order else {
+        return Ok(marks);
+    };
     let (mut last, mut rank) = (0usize, 1u64);
     for i in 0..order.len() {
         let (call, point) = (order.at(i).call, order.at(i).point);
@@ -158,11 +179,9 @@ impl<'a> History<'a> {
         view: &View<'a>,
         found: &'a LastHistory<'a>,
     ) -> Result<History<'a>, AllocError> {
-        let (read, events) = (&found.read, drawn_events(found));
-        let (recording, count) = (&read.recording, events.len());
-        let heading = recording.heading();
-        let whole = recording.events().len() as u64;
-        let first_line = read.number.saturating_sub(1).saturating_sub(whole);
+        let (recording, events) = (&found.read.recording, drawn_events(found));
+        let (heading, count) = (recording.heading(), events.len());
+        let first_line = first_line_of(found);
         let before = first_line.saturating_sub(found.number);
         let evidence = match refusal_of(&found.verdict) {
             Some(refusal) => Some(evidence_of(alloc, recording.kinds(), &events, refusal)?),
@@ -170,14 +189,7 @@ impl<'a> History<'a> {
         };
         let range = range_of(view.range, &evidence, count);
         let grid = Grid::of_events(window_for(range, count));
-        let order = match &found.verdict {
-            Verdict::Linearizable(order) if order.len() > 0 => Some(order),
-            _ => None,
-        };
-        let marks = match order {
-            Some(order) => marks_of(alloc, &grid, order)?,
-            None => Vec::new(alloc),
-        };
+        let marks = marks_of(alloc, &grid, order_of(&found.verdict))?;
         let mut history = History {
             alloc,
             heading,
@@ -189,20 +201,22 @@ impl<'a> History<'a> {
             chosen: Selection::new(alloc, &view.choice, heading.words())?,
             objects: view.choice.objects,
             calls: Vec::new(alloc),
-            order,
+            order: order_of(&found.verdict),
             points: points_of(alloc, count, &marks)?,
             marks,
             evidence,
             is_cut: range.from < grid.window.from,
             events,
         };
-        let all = calls_of(alloc, &history.events)?;
-        history.calls = all
-            .iter()
-            .filter(|call| history.draws(call))
-            .copied()
-            .collect(alloc)?;
+        history.calls = history.drawn_calls()?;
         Ok(history)
+    }
+
+    /// Returns the calls that are drawn: the completed ones, and then the pending ones.
+    fn drawn_calls(&self) -> Result<Vec<Call>, AllocError> {
+        let all = calls_of(self.alloc, &self.events)?;
+        let drawn = all.iter().filter(|call| self.draws(call));
+        drawn.copied().collect(self.alloc)
     }
 
     /// Returns whether a worker is drawn.

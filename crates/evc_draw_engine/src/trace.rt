@@ -7,7 +7,7 @@ use crate::sheet::{Bar, PutResult, Sheet};
 use ec_core::{Act, Reply};
 use ec_count::{EventId, WorkerId};
 use ec_draw::{Counter, Curve, CurveSource, Dot, Picture, Selection};
-use ec_order::Placed;
+use ec_order::{Call, Placed};
 use ec_text::Output;
 use ec_trace::{DecimalCache, Spellings, put_act};
 use std::alloc::{AllocError, Global};
@@ -203,20 +203,16 @@ impl<'a> TraceShapes<'a> {
         Ok(())
     }
 
-    /// Puts the bar of a completed call.
-    fn put_call(&self, sheet: &mut Sheet, placed: &Placed) -> PutResult {
-        let (call, point) = (&placed.call, placed.point);
-        let (worker, first, last) = (self.worker(call.worker), call.first, call.last);
-        let (act, reply) = (self.act(&call.op)?, self.reply(call.reply)?);
-        let words = format!(in self.alloc; "{worker} {} = {}", act.as_str(), reply.as_str())?;
-        let title = format!(in self.alloc;
-            "{}, entries {first} to {last}, point {point}",
-            words.as_str()
-        )?;
+    /// Puts the bar of a call, with these words on its positions.
+    fn put_bar(&self, sheet: &mut Sheet, call: &Call, span: &str) -> PutResult {
+        let (worker, act) = (self.worker(call.worker), self.act(&call.op)?);
+        let reply = self.reply(call.reply)?;
+        let (asked, returned) = (act.as_str(), reply.as_str());
+        let title = format!(in self.alloc; "{worker} {asked} = {returned}, {span}")?;
         let bar = Bar {
             row: self.row(call.worker),
-            first,
-            last,
+            first: call.first,
+            last: call.last,
             act: act.as_bytes(),
             reply: reply.as_bytes(),
             frame: "",
@@ -229,26 +225,23 @@ impl<'a> TraceShapes<'a> {
     fn put_calls(&self, sheet: &mut Sheet) -> PutResult {
         let calls = self.picture.calls.iter();
         for placed in calls.filter(|it| self.chosen.draws(it.call.worker, &it.call.op)) {
-            self.put_call(sheet, placed)?;
+            let (first, last, point) = (placed.call.first, placed.call.last, placed.point);
+            let span = format!(in self.alloc; "entries {first} to {last}, point {point}")?;
+            self.put_bar(sheet, &placed.call, span.as_str())?;
         }
         let begun = self.picture.begun.iter();
-        for call in begun.filter(|it| self.chosen.draws(it.worker, &it.op)) {
-            let (worker, act) = (self.worker(call.worker), self.act(&call.op)?);
-            let title = format!(in self.alloc;
-                "{worker} {} = pending, under way from entry {}",
-                act.as_str(),
-                call.first
-            )?;
-            let bar = Bar {
-                row: self.row(call.worker),
-                first: call.first,
+        for it in begun.filter(|it| self.chosen.draws(it.worker, &it.op)) {
+            let first = it.first;
+            let span = format!(in self.alloc; "under way from entry {first}")?;
+            let call = Call {
+                worker: it.worker,
+                op: it.op,
+                reply: Reply::Pending,
+                first,
+                round: first,
                 last: NEVER,
-                act: act.as_bytes(),
-                reply: b"pending",
-                frame: "",
-                round: 0,
             };
-            sheet.bar(&bar, title.as_str())?;
+            self.put_bar(sheet, &call, span.as_str())?;
         }
         Ok(())
     }
