@@ -409,6 +409,14 @@ impl<'a> ObjectPanel<'a> {
         Ok(())
     }
 
+    /// Returns the height of a number: limits have words above and below their lines.
+    fn unit(&self) -> u64 {
+        match &self.history.evidence {
+            Some(evidence) if !evidence.limits.is_empty() => 30,
+            _ => 20,
+        }
+    }
+
     /// Puts the panel.
     fn put(&mut self, sheet: &mut Sheet, name: Plain<'_>) -> PutResult {
         if self.subject.raising.is_some() {
@@ -418,7 +426,7 @@ impl<'a> ObjectPanel<'a> {
             self.put_value_rows(sheet, name, moves)?;
         }
         self.add_shapes()?;
-        sheet.panel(name, 20, &self.shapes)?;
+        sheet.panel(name, self.unit(), &self.shapes)?;
         Ok(())
     }
 }

@@ -223,12 +223,8 @@ impl Sheet {
     /// Puts the upper edge of some runs, `up` above their greatest numbers.
     fn upper(&mut self, scale: &Scale, runs: &[Run], up: u64) -> PutResult {
         for run in runs {
-            write!(
-                self.svg,
-                " V {} H {}",
-                scale.y(run.high).saturating_sub(up),
-                run.to
-            )?;
+            let (x, y) = (run.to, scale.y(run.high).saturating_sub(up));
+            write!(self.svg, " V {y} H {x}")?;
         }
         Ok(())
     }
@@ -236,12 +232,8 @@ impl Sheet {
     /// Puts the lower edge of some runs from right to left, `down` below their least numbers.
     fn lower(&mut self, scale: &Scale, runs: &[Run], down: u64) -> PutResult {
         for run in runs.iter().rev() {
-            write!(
-                self.svg,
-                " V {} H {}",
-                scale.y(run.low).saturating_add(down),
-                run.from
-            )?;
+            let (x, y) = (run.from, scale.y(run.low).saturating_add(down));
+            write!(self.svg, " V {y} H {x}")?;
         }
         Ok(())
     }
@@ -307,10 +299,9 @@ impl Sheet {
         if shapes.range.is_none() {
             self.name(scale.top.saturating_add(13), name)?;
         } else {
-            let step = if unit == 0 {
-                scale.reach()
-            } else {
-                step_of(scale.reach())
+            let step = match unit {
+                0 => scale.reach(),
+                _ => step_of(scale.reach()),
             };
             self.name(scale.top.saturating_sub(10), name)?;
             self.ruler(&scale, step)?;
