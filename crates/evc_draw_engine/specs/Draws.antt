@@ -165,7 +165,8 @@ DrawsTraceSoFar text status old new =
 abbrev pub outputs_of : Outputs → checks.Outputs
 outputs_of o = record { out = o.out; notes = o.notes }
 
--- how it ended with histories of calls: with the note and the status of `evc-calls check`, unless the view has nothing in it, or memory ran out, or a write failed
+-- how it ended with histories of calls: with the note and the status of `evc-calls check`, unless
+-- the view has nothing in it, or memory ran out, or a write failed
 abbrev pub DrawsHistories : View → List ℕ → Status → Outputs → Outputs → Type 0
 DrawsHistories v text status old new =
     (end : calls.Status) × (status ≡ status_as end)
