@@ -1,12 +1,4 @@
-mod Stepping
-mod Opening
-mod Counting
-mod Filtering
-mod Balancing
-mod Shading
-mod Arrowing
-mod WalkLemmas
-mod Telling
-mod Beginning
-mod Shown
-mod Choosing
+mod Moments
+mod Showing
+mod Plotting
+mod Joining

@@ -1,13 +1,9 @@
-pub mod Windows
+pub mod Shown
 pub mod Bars
-pub mod Open
-pub mod Dots
+pub mod Pending
 pub mod Curves
-pub mod Following
 pub mod Balances
 pub mod Shades
 pub mod Arrows
+pub mod Groups
 pub mod Pictures
-pub mod Chosen
-pub mod Laws
-pub mod kept

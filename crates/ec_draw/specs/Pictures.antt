@@ -1,54 +1,33 @@
--- The shapes of a picture of a history.
-use Rattle.std.specs.Prelude.{List, ◌++◌, map, reverse}
+-- What a picture of a history shows.
+use Rattle.std.specs.Prelude.{◌≡◌, List, ◌++◌, map}
 use Rattle.ec_count.specs.Tables.{Tables}
 use Rattle.ec_core.specs.declared.act.Entry.{Entry}
 use Rattle.ec_heading.specs.declared.group.Group.{Group}
-use Rattle.ec_order.specs.declared.placed.Placed.{Placed}
-use Rattle.ec_draw.specs.declared.window.Window.{Window}
-use Rattle.ec_draw.specs.declared.open.PendingBar.{PendingBar}
-use Rattle.ec_draw.specs.declared.dot.Dot.{Dot}
-use Rattle.ec_draw.specs.Bars.{bars}
-use Rattle.ec_draw.specs.Open.{pending_bars}
-use Rattle.ec_draw.specs.Dots.{dots_of}
+use Rattle.ec_heading.specs.Rules.{semaphores_of}
+use Rattle.ec_draw.specs.declared.curve.Curve.{Curve}
 use Rattle.ec_draw.specs.declared.picture.Picture.{Picture}
-use Rattle.ec_draw.specs.declared.arrow.Arrow.{Arrow}
-use Rattle.ec_draw.specs.Curves.{CurveModel, curves_of_counts, curve_model}
-use Rattle.ec_draw.specs.Balances.{balance_lines}
-use Rattle.ec_draw.specs.Shades.{ShadeModel, shade_model, shades}
-use Rattle.ec_draw.specs.Arrows.{arrows}
+use Rattle.ec_draw.specs.declared.window.Window.{Window}
+use Rattle.ec_draw.specs.Bars.{AreBars}
+use Rattle.ec_draw.specs.Curves.{counter_curves, curve_model}
+use Rattle.ec_draw.specs.Groups.{GroupArrows, GroupCurves, GroupShades, Joins}
+use Rattle.ec_draw.specs.Pending.{ArePending}
 
--- a picture, as a contract sees it: the completed calls with their linearization points, the
--- pending calls, the entries with the components that they read or raised, the curves of counts and
--- of balances, the accepted tries, and the deliveries
-pub record Shapes : Type 0 where
-  pub window : Window
-  pub calls : List Placed
-  pub begun : List PendingBar
-  pub dots : List Dot
-  pub curves : List CurveModel
-  pub shades : List ShadeModel
-  pub arrows : List Arrow
+-- the curves are those of counts, and then those of balances
+pub record AreCurves (t : Tables) (gs : List Group) (w : Window) (h : List Entry)
+    (curves : List Curve) : Type 0 where
+  pub counts : List Curve
+  pub balances : List Curve
+  pub are : curves ≡ counts ++ balances
+  pub curves_are_counts : map curve_model counts ≡ counter_curves t w h
+  pub curves_are_balances : Joins (GroupCurves (semaphores_of gs) w h) gs balances
 
--- the picture of a history, on these declarations, with these groups, and through this window
-abbrev pub shapes : Tables → List Group → Window → List Entry → Shapes
-shapes t gs w h = record {
-  window = w;
-  calls = bars t w h;
-  begun = pending_bars t w h;
-  dots = dots_of t w (reverse h);
-  curves = curves_of_counts t w h ++ balance_lines gs w h;
-  shades = shades t gs w h;
-  arrows = arrows t gs w h;
-}
-
--- the shapes that a picture has
-abbrev pub kept_shapes : Picture → Shapes
-kept_shapes p = record {
-  window = p.window;
-  calls = p.calls.items;
-  begun = p.begun.items;
-  dots = p.dots.items;
-  curves = map curve_model p.curves.items;
-  shades = map shade_model p.shades.items;
-  arrows = p.arrows.items;
-}
+-- the picture is that of a history, on these declarations, with these groups, and through this
+-- window. Its dots are only tested
+pub record IsPicture (t : Tables) (gs : List Group) (w : Window) (h : List Entry) (p : Picture)
+    : Type 0 where
+  pub window : p.window ≡ w
+  pub bars_are_calls : AreBars t w h p.calls.items
+  pub pending_bars_are_calls : ArePending t w h p.begun.items
+  pub curves : AreCurves t gs w h p.curves.items
+  pub shades_are_tries : Joins (GroupShades t w h) gs p.shades.items
+  pub arrows_are_deliveries : Joins (GroupArrows t w h) gs p.arrows.items

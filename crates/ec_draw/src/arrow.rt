@@ -1,23 +1,15 @@
 //! The arrows of deliveries.
-ghost use Rattle.std.specs.Prelude.{◌≡◌, ◌++◌, ◌∷◌, [], false, if◌then◌else◌, OnOk, map, reverse};
+ghost use Rattle.std.specs.Prelude.{◌≡◌, ◌++◌, ◌∷◌, [], IfOk, OnOk, map};
 ghost use Rattle.std.specs.List.{filter};
-ghost use Rattle.ec_draw.specs.Arrows.{RepresentsMoves, arrow_of, group_arrows, is_in, is_move};
-ghost use Rattle.ec_draw.specs.Arrows.{move_position};
-ghost use Rattle.ec_heading.specs.declared.group.Group.TheVariants as groups;
+ghost use Rattle.ec_buffer.specs.Follows.{buffer_rules};
+ghost use Rattle.ec_draw.specs.Shown.{IfFollowed, IsShown};
+ghost use Rattle.ec_draw.specs.Arrows.{AreArrows, carried, is_in};
 
 use crate::Window;
-use ec_buffer::{BufferShape, Delivery, DeliveryAudit, is_on};
-use ec_core::{Act, Audit, AuditFault, Entry, Run};
-use ec_count::{EventId, Setup};
+use ec_buffer::{BufferShape, Delivery, deliveries, is_on};
+use ec_core::{Act, AuditFault, Run};
+use ec_count::EventId;
 use std::alloc::{AllocError, Global};
-use std::marker::Model;
-
-/// What is done with an item.
-#[derive(Clone, Copy, Debug, PartialEq, Eq)]
-enum Move {
-    Put,
-    Get,
-}
 
 /// A delivery of a buffer, and where its item was put and got.
 #[derive(Clone, Copy, Debug, PartialEq, Eq)]
@@ -31,134 +23,45 @@ pub struct Arrow {
     pub got: usize,
 }
 
-/// Returns whether an act puts into a buffer, or gets from it.
-fn is_move(what: Move, shape: &BufferShape, act: &Act) -> bool
-    ensures { result ≡ is_move what shape.now act.now }
-{
-    match (what, act) {
-        (Move::Put, Act::Put(_, _)) => is_on(shape, act),
-        (Move::Get, Act::Get(_)) => is_on(shape, act),
-        _ => false,
-    }
-}
-
-/// Adds the position of an act to the list, if the act is such a move.
-fn note_move(
-    list: &mut Vec<usize>,
-    what: Move,
-    shape: &BufferShape,
-    place: usize,
-    act: &Act,
-) -> Result<(), AllocError>
-    ensures { OnOk result
-        (list.new.items ≡ list.old.items ++ (if is_move what shape.now act.now then place ∷ []
-        else [])) }
-{
-    if is_move(what, shape, act) {
-        list.push(place)?;
-    }
-    Ok(())
-}
-
-/// Adds a position as `note_move` does, unless an earlier addition failed. Returns whether any has
-/// failed.
-fn add_fails(
-    out_of_memory: bool,
-    list: &mut Vec<usize>,
-    what: Move,
-    shape: &BufferShape,
-    place: usize,
-    act: &Act,
-) -> bool
-    ensures before { result ≡ false → out_of_memory ≡ false }
-    ensures noted { result ≡ false
-        → list.new.items ≡ list.old.items ++ (if is_move what shape.now act.now then place ∷ []
-        else []) }
-{
-    out_of_memory || note_move(list, what, shape, place, act).is_err()
-}
-
-/// The audit of a buffer in a pass over a run, and the positions of the puts and the gets so far.
+/// The positions of the puts into a buffer and of the gets from it, by number.
 #[derive(Drop)]
-pub(crate) struct Moves<'a> {
-    audit: DeliveryAudit<'a>,
-    shape: &'a BufferShape,
+struct Moves {
     puts: Vec<usize>,
     gets: Vec<usize>,
-    out_of_memory: bool,
 }
 
-impl<'a> Model for Moves<'a> {
-    ghost use Rattle.ec_draw.specs.Arrows.{MovesModel};
-
-    ghost Value = { MovesModel };
-
-    ghost view = { λ s. record {
-      audit = s.audit;
-      shape = s.shape.now;
-      puts = s.puts.items;
-      gets = s.gets.items;
-      out_of_memory = s.out_of_memory;
-    } };
-}
-
-impl<'a> Audit for Moves<'a> {
-    ghost use Rattle.ec_draw.specs.Arrows.{MovesOn};
-
-    ghost represents = { MovesOn };
-
-    fn take(&mut self, place: usize, op: &Act, entry: &Entry) {
-        let Moves {
-            audit,
-            shape,
-            puts,
-            gets,
-            out_of_memory,
-        } = self;
-        *out_of_memory = add_fails(*out_of_memory, puts, Move::Put, shape, place, &entry.act);
-        *out_of_memory = add_fails(*out_of_memory, gets, Move::Get, shape, place, &entry.act);
-        audit.take(place, op, entry);
-    }
-}
-
-impl<'a> Moves<'a> {
-    /// Returns the state before the first entry of a run with this setup. It allocates nothing.
-    pub(crate) fn new(alloc: Global, shape: &'a BufferShape, setup: &'a Setup) -> Self
-        ensures shape { result.shape ≡ shape.now }
-        ensures setup { result.audit.setup ≡ setup.now }
-        ensures first { RepresentsMoves result [] }
-    {
-        Moves {
-            audit: DeliveryAudit::new(alloc, shape, setup),
-            shape,
-            puts: Vec::new(alloc),
-            gets: Vec::new(alloc),
-            out_of_memory: false,
+impl Moves {
+    fn new(alloc: Global, run: &Run, shape: &BufferShape) -> Result<Self, AllocError> {
+        let mut puts = Vec::new(alloc);
+        let mut gets = Vec::new(alloc);
+        for position in 0..run.len() {
+            if let Some(entry) = run.entry(position) {
+                match entry.act {
+                    Act::Put(_, _) if is_on(shape, &entry.act) => puts.push(position)?,
+                    Act::Get(_) if is_on(shape, &entry.act) => gets.push(position)?,
+                    _ => {}
+                }
+            }
         }
+        Ok(Moves { puts, gets })
     }
 }
 
-/// Returns the position of a move by its number.
-fn move_position(list: &[usize], number: u64) -> usize
-    ensures { result ≡ move_position list.now number }
+/// Returns the arrow of a delivery: item n is put by put n and got by get n, counted from 0.
+fn arrow_of(shape: &BufferShape, moves: &Moves, delivery: &Delivery) -> Arrow
+    ensures { carried result ≡ (shape.now.in_count, delivery.now) }
 {
-    list.get(number as usize).copied().unwrap_or(0)
-}
-
-/// Returns the arrow of a delivery.
-fn arrow_of(shape: &BufferShape, puts: &[usize], gets: &[usize], delivery: &Delivery) -> Arrow
-    ensures { result ≡ arrow_of shape.now puts.now gets.now delivery.now }
-{
+    let number = delivery.number as usize;
     Arrow {
         count: shape.in_count(),
         delivery: *delivery,
-        put: move_position(puts, delivery.number),
-        got: move_position(gets, delivery.number),
+        put: moves.puts.get(number).copied().unwrap_or(0),
+        got: moves.gets.get(number).copied().unwrap_or(0),
     }
 }
 
 /// Adds an arrow, if at least one of its ends is shown.
-fn add_arrow(arrows: &mut Vec<Arrow>, arrow: Arrow, window: Window) -> Result<(), AllocError>
+fn add_shown(arrows: &mut Vec<Arrow>, arrow: Arrow, window: Window) -> Result<(), AllocError>
     ensures { OnOk result
         (arrows.new.items ≡ arrows.old.items ++ filter (is_in window) (arrow ∷ [])) }
 {
@@ -168,64 +71,42 @@ fn add_arrow(arrows: &mut Vec<Arrow>, arrow: Arrow, window: Window) -> Result<()
     Ok(())
 }
 
-/// Adds the arrows of deliveries.
-fn add_deliveries(
-    arrows: &mut Vec<Arrow>,
+/// Returns the arrows of deliveries that are shown.
+fn shown_arrows(
+    alloc: Global,
     shape: &BufferShape,
-    puts: &[usize],
-    gets: &[usize],
+    moves: &Moves,
     list: &[Delivery],
     window: Window,
-) -> Result<(), AllocError>
-    ensures { OnOk result
-        (arrows.new.items ≡ arrows.old.items
-        ++ filter (is_in window) (map (arrow_of shape.now puts.now gets.now) list.now)) }
+) -> Result<Vec<Arrow>, AllocError>
+    ensures { IfOk result (λ arrows.
+        IsShown (is_in window) carried (map (λ d. (shape.now.in_count, d)) list.now) arrows.items) }
 {
+    let mut arrows = Vec::new(alloc);
     for delivery in list {
-        add_arrow(arrows, arrow_of(shape, puts, gets, delivery), window)?;
+        add_shown(&mut arrows, arrow_of(shape, moves, delivery), window)?;
     }
-    Ok(())
+    Ok(arrows)
 }
 
-/// Adds the arrows of a buffer from its state after a whole run, if its workers follow its rules.
-pub(crate) fn add_buffer(
-    arrows: &mut Vec<Arrow>,
+/// Returns the arrows of a buffer that are shown, if its workers follow its rules.
+pub(crate) fn arrows_of(
+    alloc: Global,
     run: &Run,
     shape: &BufferShape,
-    moves: Moves<'_>,
     window: Window,
-) -> Result<(), AllocError>
-    requires shape { moves.shape ≡ shape.now }
-    requires setup { moves.audit.setup ≡ run.now.setup }
-    requires represents { RepresentsMoves moves (reverse run.now.entries) }
-    ensures { OnOk result
-        (arrows.new.items ≡ arrows.old.items ++ group_arrows run.now.setup window run.now.entries
-        (groups.Buffer shape.now)) }
+) -> Result<Vec<Arrow>, AllocError>
+    ensures { IfOk result (λ arrows. IfFollowed (buffer_rules run.now.setup shape.now)
+        run.now.entries
+        (AreArrows run.now.setup shape.now window run.now.entries) arrows.items) }
 {
-    run.invariant();
-    shape.invariant();
-    let Moves {
-        audit,
-        puts,
-        gets,
-        out_of_memory,
-        ..
-    } = moves;
-    match audit.deliveries(run) {
+    match deliveries(alloc, run, shape) {
         Ok(list) => {
-            if out_of_memory {
-                return Err(AllocError);
-            }
-            add_deliveries(
-                arrows,
-                shape,
-                puts.as_slice(),
-                gets.as_slice(),
-                list.as_slice(),
-                window,
-            )
+            let moves = Moves::new(alloc, run, shape)?;
+            let arrows = shown_arrows(alloc, shape, &moves, list.as_slice(), window)?;
+            Ok(arrows)
         }
-        Err(AuditFault::NotFollowed { .. }) => Ok(()),
+        Err(AuditFault::NotFollowed { .. }) => Ok(Vec::new(alloc)),
         Err(AuditFault::Memory) => Err(AllocError),
     }
 }

@@ -1,13 +1,11 @@
 //! The curves of what is counted.
-ghost use Rattle.std.specs.Prelude.{◌≡◌, ◌+◌, List, ◌++◌, ◌∷◌, [], ◌<◌, ◌≤◌, IfOk, OnOk, length};
-ghost use Rattle.std.specs.Prelude.{map, reverse, take};
+ghost use Rattle.std.specs.Prelude.{◌≡◌, ◌+◌, ◌-◌, ◌++◌, IfOk, map, reverse, take};
+ghost use Rattle.std.specs.List.{range_with_len};
 ghost use Rattle.ec_core.specs.declared.act.Entry.{Entry};
-ghost use Rattle.ec_draw.specs.declared.curve.Counter.TheVariants.{Event, Sequencer};
 ghost use Rattle.ec_core.specs.Standing.{StandsFor};
-ghost use Rattle.ec_draw.specs.Curves.{IsDeclaredCounter, count_at, count_of, heights};
-ghost use Rattle.ec_draw.specs.Curves.{curve_of_count};
-ghost use Rattle.ec_draw.specs.Curves.{curves_of_counts};
-ghost use Rattle.ec_draw.specs.Curves.{raises, curve_model};
+ghost use Rattle.std.specs.Prelude.{List};
+ghost use Rattle.ec_draw.specs.Curves.{IsDeclaredCounter, count_at, count_of, curve_model};
+ghost use Rattle.ec_draw.specs.Curves.{counter_curve, counter_curves, heights, raises};
 
 use crate::Window;
 use ec_core::{Act, Run, World};
@@ -57,9 +55,8 @@ fn raises(object: &Counter, act: &Act) -> bool
 
 /// Returns by how much the entry at a position raises a count; 0 if there is no entry.
 fn raise_amount(run: &Run, object: &Counter, position: usize) -> u64
-    ensures value { count_at object.now run.now.entries (position + 1)
+    ensures { count_at object.now run.now.entries (position + 1)
         ≡ count_at object.now run.now.entries position + result }
-    ensures small { result ≤ 1 }
 {
     match run.entry(position) {
         Some(entry) => u64::from(raises(object, &entry.act)),
@@ -86,15 +83,18 @@ fn heights(
     window: Window,
     first: u64,
 ) -> Result<Vec<u64>, AllocError>
-    requires first { first ≡ count_at object.now run.now.entries window.from }
-    requires small { first ≤ window.from }
+    requires { first ≡ count_at object.now run.now.entries window.from }
     ensures { IfOk result (λ hs. hs.items ≡ heights object.now window run.now.entries) }
 {
     let mut heights = Vec::new(alloc);
     let mut count = first;
     heights.push(count)?;
     for column in 0..window.to.saturating_sub(window.from) {
-        count += raise_amount(run, object, window.from + column);
+        // (A count of a run is far from the greatest number.)
+        let Some(next) = count.checked_add(raise_amount(run, object, window.from + column)) else {
+            return Err(AllocError);
+        };
+        count = next;
         heights.push(count)?;
     }
     Ok(heights)
@@ -110,58 +110,13 @@ fn curve_of(
 ) -> Result<Curve, AllocError>
     requires counted { IsDeclaredCounter world.now.setup object }
     requires represents { StandsFor world.now (take window.from run.now.entries) }
-    ensures { IfOk result (λ c. curve_model c ≡ curve_of_count window run.now.entries object) }
+    ensures { IfOk result (λ c. curve_model c ≡ counter_curve window run.now.entries object) }
 {
     let first = count_in(world, &object);
-    let heights = heights(alloc, run, &object, window, first)?;
     Ok(Curve {
         object: CurveSource::Count(object),
-        heights,
+        heights: heights(alloc, run, &object, window, first)?,
     })
-}
-
-/// Adds the curve of an eventcount, by its number.
-fn add_event(
-    curves: &mut Vec<Curve>,
-    alloc: Global,
-    run: &Run,
-    world: &World,
-    window: Window,
-    number: usize,
-) -> Result<(), AllocError>
-    requires few { number < 32 }
-    requires counted { number < length world.now.setup.events }
-    requires represents { StandsFor world.now (take window.from run.now.entries) }
-    ensures { OnOk result (map curve_model curves.new.items ≡ map curve_model curves.old.items
-        ++ curve_of_count window run.now.entries (Event number) ∷ []) }
-{
-    if let Some(event) = EventId::new(number) {
-        let object = Counter::Event(event);
-        curves.push(curve_of(alloc, run, world, object, window)?)?;
-    }
-    Ok(())
-}
-
-/// Adds the curve of a sequencer, by its number.
-fn add_sequencer(
-    curves: &mut Vec<Curve>,
-    alloc: Global,
-    run: &Run,
-    world: &World,
-    window: Window,
-    number: usize,
-) -> Result<(), AllocError>
-    requires few { number < 32 }
-    requires counted { number < length world.now.setup.takers }
-    requires represents { StandsFor world.now (take window.from run.now.entries) }
-    ensures { OnOk result (map curve_model curves.new.items ≡ map curve_model curves.old.items
-        ++ curve_of_count window run.now.entries (Sequencer number) ∷ []) }
-{
-    if let Some(sequencer) = SeqId::new(number) {
-        let object = Counter::Sequencer(sequencer);
-        curves.push(curve_of(alloc, run, world, object, window)?)?;
-    }
-    Ok(())
 }
 
 /// Returns the curves of a run's eventcounts and then of its sequencers, given the state before the
@@ -175,15 +130,19 @@ pub(crate) fn curves(
     requires setup { world.now.setup ≡ run.now.setup }
     requires represents { StandsFor world.now (take window.from run.now.entries) }
     ensures { IfOk result (λ cs. map curve_model cs.items
-        ≡ curves_of_counts run.now.setup window run.now.entries) }
+        ≡ counter_curves run.now.setup window run.now.entries) }
 {
     run.invariant();
     let mut curves = Vec::new(alloc);
     for number in 0..run.setup().events() {
-        add_event(&mut curves, alloc, run, world, window, number)?;
+        let event = EventId::new(number).unwrap();
+        let curve = curve_of(alloc, run, world, Counter::Event(event), window)?;
+        curves.push(curve)?;
     }
     for number in 0..run.setup().sequencers() {
-        add_sequencer(&mut curves, alloc, run, world, window, number)?;
+        let sequencer = SeqId::new(number).unwrap();
+        let other = curve_of(alloc, run, world, Counter::Sequencer(sequencer), window)?;
+        curves.push(other)?;
     }
     Ok(curves)
 }

@@ -1,10 +1,4 @@
 //! The dots of entries.
-ghost use Rattle.std.specs.Prelude.{◌≡◌, IfOk, List, length, option_and_then, reverse, take};
-ghost use Rattle.ec_core.specs.declared.act.Entry.{Entry};
-ghost use Rattle.ec_core.specs.Rounds.{read_event};
-ghost use Rattle.ec_core.specs.Standing.{StandsFor};
-ghost use Rattle.ec_draw.specs.Dots.{component_in, dot_of, dots_of, held_in, number_in, op_in};
-
 use crate::Window;
 use ec_core::{Act, Entry, Run, UnderWay, World};
 use ec_count::WorkerId;
@@ -22,74 +16,50 @@ pub struct Dot {
     pub number: Option<u64>,
 }
 
-/// Returns the act that began the call of which an act in a world is a step.
-fn op_in(world: &World, worker: WorkerId, act: Act) -> Act
-    ensures { (h : List Entry) → StandsFor world.now h
-        → result ≡ op_in worker (reverse h) act }
-{
-    match act {
-        Act::Go => match world.under_way(worker) {
-            Some(call) => call.op(),
-            None => Act::Go,
-        },
-        _ => act,
-    }
-}
-
-/// Returns the component that an act reads or raises in a world, `None` if it does neither.
-fn component_in(world: &World, worker: WorkerId, act: Act) -> Option<usize>
-    ensures { (h : List Entry) → StandsFor world.now h
-        → result ≡ component_in world.now.setup worker (reverse h) act }
-{
-    match act {
-        Act::Advance(event) => world.component_of(event, worker),
-        Act::Read(_) | Act::Await(_, _) => Some(0),
-        Act::Go => match world.under_way(worker) {
-            Some(call) => Some(call.index()),
-            None => None,
-        },
-        Act::Ticket(_) | Act::Put(_, _) | Act::Get(_) | Act::Hand(_, _) => None,
-    }
-}
-
 /// Returns what a go of a call reads in a world.
-fn read_by_go(world: &World, call: &UnderWay) -> Option<u64>
-    ensures { (h : List Entry) → StandsFor world.now h
-        → result ≡ option_and_then (λ e. held_in world.now.setup e call.now.index (reverse h))
-        (read_event call.now.op) }
-{
+fn read_by_go(world: &World, call: &UnderWay) -> Option<u64> {
     match call.op() {
         Act::Read(event) | Act::Await(event, _) => world.component(event, call.index()),
         _ => None,
     }
 }
 
-/// Returns what an act reads of its component in a world, `None` if it reads none.
-fn number_in(world: &World, worker: WorkerId, act: Act) -> Option<u64>
-    ensures { (h : List Entry) → StandsFor world.now h
-        → result ≡ number_in world.now.setup worker (reverse h) act }
-{
-    match act {
-        Act::Read(event) | Act::Await(event, _) => world.component(event, 0),
-        Act::Go => match world.under_way(worker) {
-            Some(call) => read_by_go(world, &call),
-            None => None,
+/// Returns the dot of a go in a world.
+fn dot_of_go(world: &World, worker: WorkerId, position: usize) -> Dot {
+    match world.under_way(worker) {
+        Some(call) => Dot {
+            worker,
+            op: call.op(),
+            position,
+            component: Some(call.index()),
+            number: read_by_go(world, &call),
         },
-        Act::Advance(_) | Act::Ticket(_) | Act::Put(_, _) | Act::Get(_) | Act::Hand(_, _) => None,
+        None => Dot {
+            worker,
+            op: Act::Go,
+            position,
+            component: None,
+            number: None,
+        },
     }
 }
 
 /// Returns the dot of the next entry in a world.
-fn dot_of(world: &World, position: usize, entry: &Entry) -> Dot
-    ensures { (h : List Entry) → StandsFor world.now h → position ≡ length (reverse h)
-        → result ≡ dot_of world.now.setup (reverse h) entry.now }
-{
+///
+/// An advance raises its worker's component, and a read or an await begins with component 0.
+fn dot_of(world: &World, position: usize, entry: &Entry) -> Dot {
+    let (component, number) = match entry.act {
+        Act::Go => return dot_of_go(world, entry.worker, position),
+        Act::Advance(event) => (world.component_of(event, entry.worker), None),
+        Act::Read(event) | Act::Await(event, _) => (Some(0), world.component(event, 0)),
+        Act::Ticket(_) | Act::Put(_, _) | Act::Get(_) | Act::Hand(_, _) => (None, None),
+    };
     Dot {
         worker: entry.worker,
-        op: op_in(world, entry.worker, entry.act),
+        op: entry.act,
         position,
-        component: component_in(world, entry.worker, entry.act),
-        number: number_in(world, entry.worker, entry.act),
+        component,
+        number,
     }
 }
 
@@ -100,13 +70,7 @@ pub(crate) fn dots(
     run: &Run,
     mut world: World,
     window: Window,
-) -> Result<Vec<Dot>, AllocError>
-    requires setup { world.setup ≡ run.now.setup }
-    requires represents { StandsFor world (take window.from run.now.entries) }
-    ensures { IfOk result
-        (λ ds. ds.items ≡ dots_of run.now.setup window (reverse run.now.entries)) }
-{
-    run.invariant();
+) -> Result<Vec<Dot>, AllocError> {
     let mut dots = Vec::new(alloc);
     for position in window.from..window.to.min(run.len()) {
         if let Some(entry) = run.entry(position) {

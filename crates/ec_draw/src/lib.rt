@@ -19,11 +19,7 @@ pub use arrow::Arrow;
 pub use chosen::{NameFilter, Selection};
 pub use curve::{Counter, Curve, CurveSource};
 pub use dot::Dot;
-pub use laws::{
-    arrows_are_deliveries, balance_curves_are_balances, bars_are_calls, curves_are_counts,
-    following_is_answered, pending_bars_begin, pictures_have_400_columns_at_most,
-    shades_begin_lists, shades_end_tries,
-};
+pub use laws::{pictures_have_400_columns_at_most, units_left_are_balances};
 pub use open::PendingBar;
 pub use picture::{Picture, picture_of};
 pub use shade::{Shade, Span};

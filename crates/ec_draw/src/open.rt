@@ -1,9 +1,11 @@
 //! The bars of pending calls.
-ghost use Rattle.std.specs.Prelude.{◌≡◌, ◌<◌, ◌++◌, ◌∷◌, [], IfOk, OnOk, reverse};
-ghost use Rattle.ec_draw.specs.Open.{begins, begun_at, pending_bars, open_bars_of, open_call};
+ghost use Rattle.std.specs.Prelude.{◌≡◌, ◌++◌, IfOk, OnOk, option_to_list, reverse};
+ghost use Rattle.std.specs.List.{filter};
+ghost use Rattle.std.specs.Option.{option_map};
+ghost use Rattle.ec_draw.specs.Pending.{ArePending, call_of_bar, is_in, pending_call};
 
 use crate::Window;
-use ec_core::{Act, Entry, Run};
+use ec_core::{Act, Run};
 use ec_count::WorkerId;
 use std::alloc::{AllocError, Global};
 
@@ -18,33 +20,21 @@ pub struct PendingBar {
     pub first: usize,
 }
 
-/// Returns whether an entry is one of a worker, and begins a call.
-fn begins(worker: WorkerId, entry: &Entry) -> bool
-    ensures { result ≡ begins worker entry.now }
-{
-    entry.worker.get() == worker.get() && !matches!(entry.act, Act::Go)
-}
-
 /// Returns the position of the latest entry of a worker that began a call; 0 if there is none.
-fn begun_at(run: &Run, worker: WorkerId) -> usize
-    ensures { result ≡ begun_at worker (reverse run.now.entries) }
-{
-    let mut end = run.len();
-    while end > 0 {
-        end -= 1;
-        if let Some(entry) = run.entry(end) {
-            if begins(worker, &entry) {
-                return end;
+fn begun_at(run: &Run, worker: WorkerId) -> usize {
+    for position in (0..run.len()).rev() {
+        if let Some(entry) = run.entry(position) {
+            if entry.worker == worker && !matches!(entry.act, Act::Go) {
+                return position;
             }
         }
     }
     0
 }
 
-/// Returns the call of a worker that is pending at the end of a run, `None` if there is none.
-#[tactic(auto, using(crate::proofs::Stepping::open_some, crate::proofs::Stepping::open_none))]
-fn open_call(run: &Run, worker: WorkerId) -> Option<PendingBar>
-    ensures { result ≡ open_call worker (reverse run.now.entries) }
+/// Returns the pending call of a worker, if it has one.
+fn pending_call(run: &Run, worker: WorkerId) -> Option<PendingBar>
+    ensures { option_map call_of_bar result ≡ pending_call (reverse run.now.entries) worker }
 {
     match run.world().under_way(worker) {
         Some(call) => Some(PendingBar {
@@ -56,23 +46,18 @@ fn open_call(run: &Run, worker: WorkerId) -> Option<PendingBar>
     }
 }
 
-/// Adds the pending call of a worker, by its number, if it has one that is shown.
-fn add_open(
+/// Adds a pending call, if there is one and it is shown.
+fn add_shown(
     bars: &mut Vec<PendingBar>,
-    run: &Run,
     window: Window,
-    number: usize,
+    bar: Option<PendingBar>,
 ) -> Result<(), AllocError>
-    requires { number < 16 }
     ensures { OnOk result
-        (bars.new.items ≡ bars.old.items ++ open_bars_of window number (reverse run.now.entries)) }
+        (bars.new.items ≡ bars.old.items ++ filter (is_in window) (option_to_list bar)) }
 {
-    let Some(worker) = WorkerId::new(number) else {
-        return Ok(());
-    };
-    if let Some(begun) = open_call(run, worker) {
-        if begun.first < window.to {
-            bars.extend_from_slice(&[begun])?;
+    if let Some(bar) = bar {
+        if bar.first < window.to {
+            bars.extend_from_slice(&[bar])?;
         }
     }
     Ok(())
@@ -80,18 +65,18 @@ fn add_open(
 
 /// Returns the calls that are pending at the end of a run and are shown, in the order of their
 /// workers.
-#[tactic(auto, using(crate::proofs::Stepping::no_open, crate::proofs::Stepping::more_open))]
 pub(crate) fn pending_bars(
     alloc: Global,
     run: &Run,
     window: Window,
 ) -> Result<Vec<PendingBar>, AllocError>
-    ensures { IfOk result (λ os. os.items ≡ pending_bars run.now.setup window run.now.entries) }
+    ensures { IfOk result (λ bars. ArePending run.now.setup window run.now.entries bars.items) }
 {
     run.invariant();
     let mut bars = Vec::new(alloc);
     for number in 0..run.setup().workers() {
-        add_open(&mut bars, run, window, number)?;
+        let worker = WorkerId::new(number).unwrap();
+        add_shown(&mut bars, window, pending_call(run, worker))?;
     }
     Ok(bars)
 }

@@ -1,7 +1,6 @@
 //! All shapes of a picture.
-ghost use Rattle.std.specs.Prelude.{◌≡◌, ◌++◌, IfOk, OnOk, map};
-ghost use Rattle.ec_draw.specs.Curves.{curve_model};
-ghost use Rattle.ec_draw.specs.Pictures.{kept_shapes, shapes};
+ghost use Rattle.std.specs.Prelude.{IfOk};
+ghost use Rattle.ec_draw.specs.Pictures.{IsPicture};
 
 use crate::curve::curves;
 use crate::dot::dots;
@@ -11,7 +10,7 @@ use crate::replay::world_at;
 use crate::{Arrow, Curve, Dot, PendingBar, Shade, Window};
 use ec_core::Run;
 use ec_heading::Group;
-use ec_order::{Placed, order_between};
+use ec_order::{Placed, order_between, order_by_points_ascends};
 use std::alloc::{AllocError, Global};
 
 /// The shapes of a picture of a run, through a window.
@@ -33,17 +32,6 @@ pub struct Picture {
     pub arrows: Vec<Arrow>,
 }
 
-/// Adds some curves.
-fn add_curves(curves: &mut Vec<Curve>, list: Vec<Curve>) -> Result<(), AllocError>
-    ensures { OnOk result (map curve_model curves.new.items ≡ map curve_model curves.old.items
-        ++ map curve_model list.items) }
-{
-    for curve in list {
-        curves.push(curve)?;
-    }
-    Ok(())
-}
-
 /// Returns the picture of a run through a window: the shapes of the run's history, with these
 /// groups. It is an error only if memory runs out.
 pub fn picture_of(
@@ -52,13 +40,14 @@ pub fn picture_of(
     groups: &[Group],
     window: Window,
 ) -> Result<Picture, AllocError>
-    ensures { IfOk result (λ p. kept_shapes p
-        ≡ shapes run.now.setup groups.now window run.now.entries) }
+    ensures { IfOk result (IsPicture run.now.setup groups.now window run.now.entries) }
 {
-    let found = findings_of(alloc, run, groups, window)?;
+    run.invariant();
+    order_by_points_ascends();
+    let mut found = findings_of(alloc, run, groups, window)?;
     let world = world_at(run, window.from);
     let mut curves = curves(alloc, run, &world, window)?;
-    add_curves(&mut curves, found.curves)?;
+    curves.append(&mut found.curves)?;
     Ok(Picture {
         window,
         calls: order_between(alloc, run, window.from, window.to)?,

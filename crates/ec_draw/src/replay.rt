@@ -11,13 +11,11 @@ pub(crate) fn world_at(run: &Run, moment: usize) -> World
 {
     run.invariant();
     let mut world = World::open(run.setup().copy());
-    let mut place = 0;
-    for entry in run.entries() {
-        if place >= moment {
+    for place in 0..moment {
+        let Some(entry) = run.entry(place) else {
             return world;
-        }
+        };
         let _reply = world.step(entry.worker, entry.act);
-        place += 1;
     }
     world
 }

@@ -1,21 +1,15 @@
 //! The shades over accepted tries.
-ghost use Rattle.std.specs.Prelude.{◌≡◌, ◌<◌, ◌++◌, ◌∷◌, [], false, ℕ, IfOk, OnOk, Some, map};
-ghost use Rattle.std.specs.Prelude.{option_to_list, reverse, slice_get};
-ghost use Rattle.std.specs.List.{filter, flat_map};
-ghost use Rattle.std.specs.Option.{option_map};
-ghost use Rattle.ec_core.specs.Calls.{is_go};
-ghost use Rattle.ec_draw.specs.Shades.{AddsNewest, RepresentsTries, group_shades, is_in};
-ghost use Rattle.ec_draw.specs.Shades.{shade_model};
-ghost use Rattle.ec_draw.specs.Shades.{shade};
-ghost use Rattle.ec_draw.specs.Shades.{starts_after};
-ghost use Rattle.ec_heading.specs.declared.group.Group.TheVariants as groups;
+ghost use Rattle.std.specs.Prelude.{◌≡◌, ◌++◌, ◌∷◌, [], IfOk, OnOk, map};
+ghost use Rattle.std.specs.List.{filter};
+ghost use Rattle.ec_database.specs.Following.{database_rules};
+ghost use Rattle.ec_draw.specs.Shown.{IfFollowed, IsShown};
+ghost use Rattle.ec_draw.specs.Shades.{AreShades, found, is_in, shade_model};
 
 use crate::Window;
-use ec_core::{Act, Audit, AuditFault, Entry, Run};
-use ec_count::{EventId, Setup};
-use ec_database::{Accepted, DatabaseShape, TryView, VersionAudit, is_on};
+use ec_core::{Act, Audit, AuditFault, Entry, Run, walk};
+use ec_count::EventId;
+use ec_database::{Accepted, AcceptedTries, DatabaseShape, TryView, VersionAudit, is_on};
 use std::alloc::{AllocError, Global};
-use std::marker::Model;
 
 /// The positions of an entry and of a later one.
 #[derive(Clone, Copy, Debug, PartialEq, Eq)]
@@ -34,37 +28,62 @@ pub struct Shade {
     pub accepted: Accepted,
 }
 
-/// Returns whether an act continues a call.
-fn is_go(act: &Act) -> bool
-    ensures { result ≡ is_go act.now }
-{
-    matches!(act, Act::Go)
+/// Where the call sequence of each worker began, and the spans of the accepted tries so far.
+#[derive(Drop)]
+struct Spans {
+    starts: [usize; 16],
+    spans: Vec<Span>,
+    out_of_memory: bool,
 }
 
-/// Returns the starts before the first entry of a run: 0 for each worker.
-fn no_starts() -> [usize; 16]
-    ensures { (w : ℕ) → w < 16 → slice_get result w ≡ Some 0 }
-{
-    [0; 16]
-}
+impl Spans {
+    /// Stores the position at which a worker's call sequence begins, if an entry begins one.
+    fn begin(&mut self, shape: &DatabaseShape, finished: usize, position: usize, entry: &Entry) {
+        if finished == 0 && !matches!(entry.act, Act::Go) && is_on(shape, &entry.act) {
+            self.starts[entry.worker.get()] = position;
+        }
+    }
 
-/// Stores the position at which a worker's call sequence begins, if an entry begins one.
-fn note_start(
-    shape: &DatabaseShape,
-    finished: usize,
-    place: usize,
-    entry: &Entry,
-    starts: &mut [usize; 16],
-)
-    ensures { starts.new ≡ starts_after shape.now finished place entry.now starts.old }
-{
-    if finished == 0 && !is_go(&entry.act) && is_on(shape, &entry.act) {
-        starts[entry.worker.get()] = place;
+    /// Adds the span of the accepted try that an entry ends, unless an addition failed before.
+    fn end(&mut self, position: usize, entry: &Entry) {
+        let span = Span {
+            first: self.starts[entry.worker.get()],
+            last: position,
+        };
+        self.out_of_memory = self.out_of_memory || self.spans.push(span).is_err();
     }
 }
 
-/// Adds a shade, if it is shown.
-fn add_shade(
+/// The audit of a database in a pass over a run, and the spans of the tries that it finds.
+#[derive(Drop)]
+struct Tries<'a> {
+    audit: VersionAudit<'a>,
+    shape: &'a DatabaseShape,
+    spans: Spans,
+}
+
+impl<'a> Audit for Tries<'a> {
+    ghost use Rattle.ec_draw.specs.Shades.{TriesOn};
+
+    ghost represents = { TriesOn };
+
+    fn take(&mut self, place: usize, op: &Act, entry: &Entry) {
+        let Tries {
+            audit,
+            shape,
+            spans,
+        } = self;
+        let before = audit.accepted_count();
+        spans.begin(shape, audit.completed_count(entry.worker), place, entry);
+        audit.take(place, op, entry);
+        if audit.accepted_count() != before {
+            spans.end(place, entry);
+        }
+    }
+}
+
+/// Adds the shade of an accepted try, if it is shown.
+fn add_shown(
     shades: &mut Vec<Shade>,
     accepted: &TryView<'_>,
     count: EventId,
@@ -72,7 +91,8 @@ fn add_shade(
     span: Span,
 ) -> Result<(), AllocError>
     ensures { OnOk result (map shade_model shades.new.items ≡ map shade_model shades.old.items
-        ++ filter (is_in window) (shade count span accepted.now ∷ [])) }
+        ++ filter (is_in window) (record { count = count; span = span; accepted = accepted.now }
+        ∷ [])) }
 {
     if window.meets(span.first, span.last) {
         let accepted = accepted.to_accepted(*shades.allocator())?;
@@ -85,175 +105,62 @@ fn add_shade(
     Ok(())
 }
 
-/// Adds the shade of accepted try `before`, counted from 0, if the audit has found it. It is an
-/// error if the audit or the list ran out of memory.
-fn add_newest(
-    shades: &mut Vec<Shade>,
-    audit: &VersionAudit<'_>,
-    before: Option<usize>,
+/// Returns the shades of accepted tries with these spans that are shown. It is an error if a span
+/// is missing, since there was no memory for it.
+fn shown_shades(
+    alloc: Global,
+    tries: &AcceptedTries,
+    spans: &[Span],
     count: EventId,
     window: Window,
-    span: Span,
-) -> Result<(), AllocError>
-    ensures { OnOk result
-        (AddsNewest count window span before audit.now (map shade_model shades.old.items)
-        (map shade_model shades.new.items)) }
+) -> Result<Vec<Shade>, AllocError>
+    ensures { IfOk result (λ shades.
+        IsShown (is_in window) found (map (λ a. (count, a)) tries.now.list)
+        (map shade_model shades.items)) }
 {
-    let Some(place) = before else {
-        return Err(AllocError);
-    };
-    if audit.accepted_count().is_none() {
-        return Err(AllocError);
+    let mut shades = Vec::new(alloc);
+    for number in 0..tries.len() {
+        let Some(accepted) = tries.get(number) else {
+            return Err(AllocError);
+        };
+        let Some(span) = spans.get(number) else {
+            return Err(AllocError);
+        };
+        add_shown(&mut shades, &accepted, count, window, *span)?;
     }
-    if let Some(accepted) = audit.accepted_at(place) {
-        add_shade(shades, &accepted, count, window, span)?;
-    }
-    Ok(())
+    Ok(shades)
 }
 
-/// Adds a shade as `add_newest` does, unless an earlier addition failed. Returns whether any has
-/// failed.
-fn add_fails(
-    out_of_memory: bool,
-    shades: &mut Vec<Shade>,
-    audit: &VersionAudit<'_>,
-    before: Option<usize>,
-    count: EventId,
-    window: Window,
-    span: Span,
-) -> bool
-    ensures before { result ≡ false → out_of_memory ≡ false }
-    ensures added { result ≡ false
-        → AddsNewest count window span before audit.now (map shade_model shades.old.items)
-        (map shade_model shades.new.items) }
-{
-    out_of_memory || add_newest(shades, audit, before, count, window, span).is_err()
-}
-
-/// The audit of a database in a pass over a run, where the call sequence of each worker began, and
-/// the shades so far.
-#[derive(Drop)]
-pub(crate) struct Tries<'a> {
-    audit: VersionAudit<'a>,
-    shape: &'a DatabaseShape,
-    window: Window,
-    starts: [usize; 16],
-    shades: Vec<Shade>,
-    out_of_memory: bool,
-}
-
-impl<'a> Model for Tries<'a> {
-    ghost use Rattle.std.specs.Prelude.{map};
-    ghost use Rattle.ec_draw.specs.Shades.{TriesModel, shade_model};
-
-    ghost Value = { TriesModel };
-
-    ghost view = { λ s. record {
-      audit = s.audit;
-      shape = s.shape.now;
-      window = s.window;
-      starts = s.starts;
-      shades = map shade_model s.shades.items;
-      out_of_memory = s.out_of_memory;
-    } };
-}
-
-impl<'a> Audit for Tries<'a> {
-    ghost use Rattle.ec_draw.specs.Shades.{TriesOn};
-
-    ghost represents = { TriesOn };
-
-    fn take(&mut self, place: usize, op: &Act, entry: &Entry) {
-        let Tries {
-            audit,
-            shape,
-            window,
-            starts,
-            shades,
-            out_of_memory,
-        } = self;
-        let first = starts[entry.worker.get()];
-        let span = Span { first, last: place };
-        let before = audit.accepted_count();
-        let finished = audit.completed_count(entry.worker);
-        note_start(shape, finished, place, entry, starts);
-        audit.take(place, op, entry);
-        *out_of_memory = add_fails(
-            *out_of_memory,
-            shades,
-            audit,
-            before,
-            shape.start(),
-            *window,
-            span,
-        );
-    }
-}
-
-impl<'a> Tries<'a> {
-    /// Returns the state before the first entry of a run with this setup.
-    pub(crate) fn new(
-        alloc: Global,
-        shape: &'a DatabaseShape,
-        setup: &'a Setup,
-        window: Window,
-    ) -> Self
-        ensures shape { result.shape ≡ shape.now }
-        ensures setup { result.audit.setup ≡ setup.now }
-        ensures window { result.window ≡ window }
-        ensures first { RepresentsTries result [] }
-    {
-        Tries {
-            audit: VersionAudit::new(alloc, shape, setup),
-            shape,
-            window,
-            starts: no_starts(),
-            shades: Vec::new(alloc),
-            out_of_memory: false,
-        }
-    }
-}
-
-/// Adds some shades.
-fn add_all(shades: &mut Vec<Shade>, list: Vec<Shade>) -> Result<(), AllocError>
-    ensures { OnOk result (map shade_model shades.new.items ≡ map shade_model shades.old.items
-        ++ map shade_model list.items) }
-{
-    for shade in list {
-        shades.push(shade)?;
-    }
-    Ok(())
-}
-
-/// Adds the shades of a database from its state after a whole run, if its workers follow its rules.
-pub(crate) fn add_database(
-    shades: &mut Vec<Shade>,
+/// Returns the shades of a database that are shown, if its workers follow its rules.
+pub(crate) fn shades_of(
+    alloc: Global,
     run: &Run,
     shape: &DatabaseShape,
-    tries: Tries<'_>,
-) -> Result<(), AllocError>
-    requires shape { tries.shape ≡ shape.now }
-    requires setup { tries.audit.setup ≡ run.now.setup }
-    requires represents { RepresentsTries tries (reverse run.now.entries) }
-    ensures { OnOk result (map shade_model shades.new.items ≡ map shade_model shades.old.items
-        ++ group_shades run.now.setup tries.entry.window run.now.entries
-        (groups.Database shape.now)) }
+    window: Window,
+) -> Result<Vec<Shade>, AllocError>
+    ensures { IfOk result (λ shades. IfFollowed (database_rules run.now.setup shape.now)
+        run.now.entries
+        (AreShades run.now.setup shape.now window run.now.entries)
+        (map shade_model shades.items)) }
 {
-    let _ = shape;
-    let Tries {
-        audit,
-        shades: list,
-        out_of_memory,
-        ..
-    } = tries;
+    let mut tries = Tries {
+        audit: VersionAudit::new(alloc, shape, run.setup()),
+        shape,
+        spans: Spans {
+            starts: [0; 16],
+            spans: Vec::new(alloc),
+            out_of_memory: false,
+        },
+    };
+    walk(run, &mut tries);
+    let Tries { audit, spans, .. } = tries;
     match audit.versions(run) {
-        Ok(_accepted) => {
-            if out_of_memory {
-                return Err(AllocError);
-            }
-            add_all(shades, list)
+        Ok(list) => {
+            let spans = spans.spans.as_slice();
+            let shades = shown_shades(alloc, &list, spans, shape.start(), window)?;
+            Ok(shades)
         }
-        Err(AuditFault::NotFollowed { .. }) => Ok(()),
+        Err(AuditFault::NotFollowed { .. }) => Ok(Vec::new(alloc)),
         Err(AuditFault::Memory) => Err(AllocError),
     }
 }

