@@ -16,7 +16,8 @@ use Rattle.calls_report.specs.Checks as checks
 use Rattle.calls_report.specs.declared.status.Status as calls
 use Rattle.calls_report.specs.declared.status.Status.TheVariants as ends
 use Rattle.calls_draw.specs.Draws as histories
-use Rattle.ec_draw.specs.Pictures.{Shapes, shapes}
+use Rattle.ec_draw.specs.declared.picture.Picture.{Picture}
+use Rattle.ec_draw.specs.Pictures.{IsPicture}
 use Rattle.evc_engine.specs.declared.status.Status.{Status}
 use Rattle.evc_engine.specs.declared.status.Status.TheVariants.{Done, Refused, Usage, InputOutput}
 use Rattle.evc_engine.specs.declared.status.Status.TheVariants.{Memory, Stopped}
@@ -29,9 +30,10 @@ use Rattle.evc_draw_engine.specs.Unknown.{has_unknown, unknown_notes}
 use Rattle.evc_draw_engine.specs.Windows.{cut_note, empty_note, is_empty, is_whole, is_wide, window_for}
 use Rattle.evc_draw_engine.specs.Windows.{window_on}
 
--- the shapes of a trace that has n columns
-abbrev pub shapes_for : View → TraceModel → ℕ → Shapes
-shapes_for v t n = shapes t.heading.setup t.heading.groups (window_for v.range n) t.entries
+-- the picture is that of a trace that has n columns
+abbrev pub IsPictureFor : View → TraceModel → ℕ → Picture → Type 0
+IsPictureFor v t n picture =
+    IsPicture t.heading.setup t.heading.groups (window_for v.range n) t.entries picture
 
 -- whether a text is one of histories of calls, by how it begins
 abbrev pub is_calls : List ℕ → Bool

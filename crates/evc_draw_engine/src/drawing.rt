@@ -3,12 +3,10 @@ ghost use Rattle.std.specs.Prelude.{◌≡◌, Some, codes, false, true, IfSome,
 ghost use Rattle.ec_text.specs.Puts.{Puts, IsWrittenOut};
 ghost use Rattle.ec_trace.specs.declared.read.TheConstants.{TRACE_MAX};
 ghost use Rattle.evc_engine.specs.declared.status.Status.TheVariants.{InputOutput, Memory};
-ghost use Rattle.ec_draw.specs.Chosen.{chosen_targets};
-ghost use Rattle.ec_draw.specs.Pictures.{kept_shapes};
 ghost use Rattle.evc_draw_engine.specs.Draws.{CutOffFault, Drawn, Draws, DrawsCutOff, DrawsText};
 ghost use Rattle.evc_draw_engine.specs.Draws.{DrawsTrace, DrawsTraceSoFar, IsDrawable};
 ghost use Rattle.evc_draw_engine.specs.Draws.{ReportsFault};
-ghost use Rattle.evc_draw_engine.specs.Draws.{columns_for, shapes_for, trace_before_fault};
+ghost use Rattle.evc_draw_engine.specs.Draws.{columns_for, IsPictureFor, trace_before_fault};
 ghost use Rattle.evc_draw_engine.specs.Faults.{position_in, right_of};
 ghost use Rattle.evc_draw_engine.specs.Windows.{cut_note, is_wide, window_on};
 
@@ -44,8 +42,7 @@ fn picture_text(
     note: Option<Note<'_>>,
 ) -> Result<String, AllocError>
     requires columns { columns ≡ columns_for traced.now note }
-    requires chosen { chosen.now ≡ chosen_targets view.now.choice traced.now.heading.words }
-    requires picture { kept_shapes picture.now ≡ shapes_for view.now traced.now columns }
+    requires picture { IsPictureFor view.now traced.now columns picture.now }
 {
     let _ = columns;
     let names = Names::new(traced.heading().words());
